@@ -1,0 +1,46 @@
+use Prim.Native.Nat.{_-_}
+use borrow.Author.Needs.{needs}
+use Rattle.cipher.proofs.test.repeated.Statement.{statement}
+use Rattle.cipher.proofs.test.repeated.Tie as tie
+use Rattle.cipher.proofs.test.repeated.Reads as reads
+
+abbrev Inv-loop : tie.InvT-loop
+Inv-loop decipher times keys b₀ counter₀ b counter = Unit {0}
+
+abbrev μ-loop : tie.MeasureT-loop
+μ-loop decipher times keys b₀ counter₀ b counter = times - counter
+
+round-keys-requires : tie.Need-round-keys-requires Inv-loop μ-loop
+round-keys-requires c κs = search needs
+
+loop-holds : tie.Need-loop-holds Inv-loop μ-loop
+loop-holds c = search needs
+
+block-under-requires : tie.Need-block-under-requires Inv-loop μ-loop
+block-under-requires c κs = search needs
+
+add-counter : tie.Need-add-counter Inv-loop μ-loop
+add-counter c = search needs
+
+loop-less : tie.Need-loop-less Inv-loop μ-loop
+loop-less c = search needs
+
+loop-again : tie.Need-loop-again Inv-loop μ-loop
+loop-again c = search needs
+
+returns : tie.Need-returns Inv-loop μ-loop
+returns c = search needs
+
+pub repeated-spec : {M : Type 1} → statement M
+repeated-spec =
+    tie.close
+    (tie.spec
+    Inv-loop
+    μ-loop
+    round-keys-requires
+    loop-holds
+    block-under-requires
+    add-counter
+    loop-less
+    loop-again
+    returns)

@@ -1,0 +1,4 @@
+pub mod Fill
+mod Numbers
+mod Places
+mod Turns

@@ -1,0 +1,14 @@
+pub mod Rows
+pub mod Lengths
+pub mod Elements
+pub mod Ranges
+pub mod Binary
+pub mod Permutations
+pub mod Sums
+pub mod Walk
+pub mod Texts
+pub mod Inverse
+pub mod Parity
+pub mod Padding
+pub mod Signature
+mod Vectors

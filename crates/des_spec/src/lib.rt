@@ -1,0 +1,1 @@
+// The definitions of DES, triple DES and the signatures, and their laws. No code.

@@ -1,0 +1,15 @@
+-- Many tests at once hold where each of them does. Assumes nothing.
+use mathlib.Core.Bool.{Bool, true, false, false≢true}
+use mathlib.Core.List.{List, [], _∷_}
+use mathlib.Core.Path.{_≡_, refl}
+use Rattle.octets.specs.Tests.{allTrue, Each}
+
+pub each : (bs : List Bool) → allTrue bs ≡ true → Each bs
+each [] e = tt
+each (true ∷ bs) e = (refl, each bs e)
+each (false ∷ bs) e = absurd (false≢true e)
+
+pub all-true : (bs : List Bool) → Each bs → allTrue bs ≡ true
+all-true [] h = refl
+all-true (true ∷ bs) h = all-true bs (h .1)
+all-true (false ∷ bs) h = absurd (false≢true (h .0))

@@ -1,0 +1,9 @@
+pub mod Rules
+pub mod Conditions
+pub mod Filling
+pub mod Parts
+pub mod Pasting
+pub mod Equality
+pub mod Numbers
+pub mod Ranges
+pub mod Holding

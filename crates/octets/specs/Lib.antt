@@ -1,0 +1,5 @@
+pub mod Choice
+pub mod Tests
+pub mod Bytes
+pub mod Words
+pub mod Buffers

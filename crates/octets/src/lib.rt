@@ -1,0 +1,34 @@
+// Byte strings, as the crates above use them: read, written, compared, and put together in a buffer by value.
+pub mod buffer;
+pub mod comparing;
+pub mod reading;
+pub mod words;
+pub mod writing;
+
+pub use buffer::Buffer;
+pub use buffer::CAPACITY;
+pub use buffer::append;
+pub use buffer::append_byte;
+pub use buffer::append_word;
+pub use buffer::append4;
+pub use buffer::append8;
+pub use buffer::append16;
+pub use buffer::copy_front;
+pub use buffer::empty;
+pub use buffer::size;
+pub use comparing::all_zero;
+pub use comparing::same;
+pub use reading::byte_at;
+pub use reading::byte_from;
+pub use reading::fill;
+pub use reading::part4;
+pub use reading::part8;
+pub use reading::part16;
+pub use reading::part24;
+pub use reading::part48;
+pub use reading::word_at;
+pub use words::high;
+pub use words::low;
+pub use words::word_of;
+pub use writing::clear;
+pub use writing::paste;
