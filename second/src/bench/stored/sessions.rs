@@ -1,0 +1,33 @@
+//! Recorded sessions in 01's order: each step's refusals, then a card's life. They reach every
+//! rule that a bench file can reach.
+
+mod life;
+mod pins;
+mod steps;
+
+use crate::bench::scenario::Scenario;
+
+pub fn file() -> Vec<u8> {
+    let parts: [fn(&mut Scenario); 15] = [
+        steps::no_card,
+        steps::malformed_commands,
+        steps::classes_and_instructions,
+        steps::unselected,
+        steps::parameters_and_lengths,
+        steps::no_channel,
+        life::fresh_card,
+        life::channels,
+        life::personalization,
+        pins::pins,
+        life::access,
+        life::transactions,
+        life::put_data_rules,
+        life::chains,
+        life::log_and_numbers,
+    ];
+    let mut scenario = Scenario::new(2);
+    for part in parts {
+        part(&mut scenario);
+    }
+    scenario.file
+}

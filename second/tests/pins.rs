@@ -1,0 +1,86 @@
+//! PIN blocks, VERIFY PIN and PIN CHANGE/UNBLOCK.
+
+mod support;
+
+use second::bench::stored::fixture::{change_pin, dek, unblock, verify};
+use second::purse::card::Set;
+use second::purse::channel::encipher;
+use second::purse::instruction::Instruction;
+use second::purse::pin::is_block;
+use second::purse::session::Level;
+use second::terminal::get_data;
+use support::{bytes, hex, personalized, selected};
+
+#[test]
+fn pin_blocks() {
+    for good in ["241234FFFFFFFFFF", "2C123456789012FF", "2500000FFFFFFFFF"] {
+        assert!(
+            is_block(&bytes(good).try_into().expect("8 bytes")),
+            "{good}"
+        );
+    }
+    for bad in [
+        "141234FFFFFFFFFF",
+        "341234FFFFFFFFFF",
+        "23123FFFFFFFFFFF",
+        "2D1234567890123F",
+        "2512345678901234",
+        "24123AFFFFFFFFFF",
+        "2412345FFFFFFFFF",
+        "241234FFFFFFFFF0",
+        "251234FFFFFFFFFF",
+        "2C1234567890120F",
+        "0000000000000000",
+        "FFFFFFFFFFFFFFFF",
+    ] {
+        assert!(!is_block(&bytes(bad).try_into().expect("8 bytes")), "{bad}");
+    }
+}
+
+/// Three wrong PINs block; the flag falls with the first; unblock fills the tries.
+#[test]
+fn pin_tries() {
+    let mut scenario = selected(personalized());
+    scenario.open(Set::Credit, Level::Command);
+    let mut try_pin = |digits: &str| {
+        let word = verify(&mut scenario, digits).line.word();
+        let status = scenario.send(&get_data(0x17)).line.to_string();
+        (word, scenario.card().tries, status)
+    };
+    let (set, cleared) = ("C 0 01F09000".to_string(), "C 0 01709000".to_string());
+    assert_eq!(try_pin("1234"), (Some(0x9000), 3, set.clone()));
+    assert_eq!(try_pin("1235"), (Some(0x6300), 2, cleared.clone()));
+    assert_eq!(try_pin("12345"), (Some(0x6300), 1, cleared.clone()));
+    assert_eq!(try_pin("1234"), (Some(0x9000), 3, set.clone()));
+    for left in [2, 1, 0] {
+        assert_eq!(try_pin("0000"), (Some(0x6300), left, cleared.clone()));
+    }
+    assert_eq!(try_pin("1234"), (Some(0x6983), 0, cleared.clone()));
+    scenario.open(Set::Admin, Level::Command);
+    assert_eq!(unblock(&mut scenario).line.word(), Some(0x9000));
+    assert_eq!(scenario.card().tries, 3);
+    verify(&mut scenario, "1234");
+    assert!(scenario.bench.session.validated);
+    unblock(&mut scenario);
+    assert!(!scenario.bench.session.validated);
+}
+
+#[test]
+fn change_of_pin() {
+    let mut scenario = selected(personalized());
+    scenario.open(Set::Admin, Level::Command);
+    verify(&mut scenario, "0000");
+    verify(&mut scenario, "1234");
+    change_pin(&mut scenario, "123456789012");
+    assert_eq!(
+        scenario.card().pin.map(|pin| hex(&pin)),
+        Some("2C123456789012FF".to_string())
+    );
+    assert_eq!(
+        (scenario.card().tries, scenario.bench.session.validated),
+        (3, false)
+    );
+    let data = encipher(&dek(&scenario), [0x24; 8]);
+    let refused = scenario.signed(Instruction::PinChange, 0, 0, &data);
+    assert_eq!(refused.line.word(), Some(0x6A80));
+}
