@@ -1,0 +1,14 @@
+pub mod Ring
+pub mod RoundTrip
+pub mod Ranges
+pub mod Seen
+pub mod Cards
+pub mod Live
+pub mod Cut
+pub mod Done
+pub mod Row
+pub mod Images
+pub mod Installation
+pub mod Bounds
+pub mod Turns
+pub mod InPlace

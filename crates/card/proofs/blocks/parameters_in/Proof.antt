@@ -1,0 +1,42 @@
+use Rattle.card.specs.Reading.{parametersIn}
+use borrow.Author.Needs.{needs}
+use Rattle.card.proofs.blocks.parameters_in.Statement.{statement}
+use Rattle.card.proofs.blocks.parameters_in.Tie as tie
+
+part4-requires : tie.Need-part4-requires
+part4-requires c κs = search needs
+
+bank-in-requires : tie.Need-bank-in-requires
+bank-in-requires c κs = search needs
+
+agent-in-requires : tie.Need-agent-in-requires
+agent-in-requires c κs = search needs
+
+byte-at-requires : tie.Need-byte-at-requires
+byte-at-requires c κs = search needs
+
+word-at-requires : tie.Need-word-at-requires
+word-at-requires c κs = search needs
+
+word-at-requires-2 : tie.Need-word-at-requires-2
+word-at-requires-2 c κs = search needs
+
+word-at-requires-3 : tie.Need-word-at-requires-3
+word-at-requires-3 c κs = search needs
+
+returns : tie.Need-returns
+unfolding parametersIn
+returns c = cc
+
+pub parameters-in-spec : {M : Type 1} → statement M
+parameters-in-spec =
+    tie.close
+    (tie.spec
+    part4-requires
+    bank-in-requires
+    agent-in-requires
+    byte-at-requires
+    word-at-requires
+    word-at-requires-2
+    word-at-requires-3
+    returns)

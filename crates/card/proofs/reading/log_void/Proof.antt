@@ -1,0 +1,75 @@
+-- The invariant: what is left of the log decides.
+use Prim.Native.Nat.{_-_, _≤_}
+use mathlib.Core.Path.{_≡_, refl, sym, _∙_}
+use native.Mathlib.Omega.{arith}
+use borrow.Author.Needs.{needs}
+use borrow.Author.Tests.{not-true, not-false}
+use lib.ListN.{drop}
+use Rattle.card.specs.Proper.{allVoid}
+use Rattle.card.specs.Reading.{logIn}
+use Rattle.card.proofs.InPlace.{void-fails, void-holds, void-end}
+use Rattle.card.proofs.reading.log_void.Statement.{statement}
+use Rattle.card.proofs.reading.log_void.Tie as tie
+
+abbrev Inv-loop : tie.InvT-loop
+Inv-loop memory size k₀ k = (k ≤ size) × (allVoid (logIn memory) ≡ allVoid (drop k (logIn memory)))
+
+abbrev μ-loop : tie.MeasureT-loop
+μ-loop memory size k₀ k = size - k
+
+size-in-requires : tie.Need-size-in-requires Inv-loop μ-loop
+size-in-requires c κs = search needs
+
+cast-size : tie.Need-cast-size Inv-loop μ-loop
+cast-size c = search needs
+
+loop-holds : tie.Need-loop-holds Inv-loop μ-loop
+loop-holds c = (omega arith, refl)
+
+record-at-requires : tie.Need-record-at-requires Inv-loop μ-loop
+record-at-requires c κs = search needs
+
+slice-aggregate-all-zero : tie.Need-slice-aggregate-all-zero Inv-loop μ-loop
+slice-aggregate-all-zero c = search needs
+
+all-zero-requires : tie.Need-all-zero-requires Inv-loop μ-loop
+all-zero-requires c κs = search needs
+
+returns : tie.Need-returns Inv-loop μ-loop
+returns c =
+    let l = c .before .before .before .before .before in
+    sym (l .loop .inv .1 ∙ void-fails _ _ (l .loop .k) _ _ (l .before .size-in .ensures) (c .before .before .before .record-at .ensures) (c .before .all-zero .ensures) (omega arith) (not-true _ (c .if1 .taken)))
+
+add-k : tie.Need-add-k Inv-loop μ-loop
+add-k c = search needs
+
+loop-less : tie.Need-loop-less Inv-loop μ-loop
+loop-less c = omega arith
+
+loop-again : tie.Need-loop-again Inv-loop μ-loop
+loop-again c =
+    let l = c .before .before .before .before .before in
+    (omega arith, l .loop .inv .1 ∙ void-holds _ _ (l .loop .k) _ _ (l .before .size-in .ensures) (c .before .before .before .record-at .ensures) (c .before .all-zero .ensures) (omega arith) (not-false _ (c .if1 .left)))
+
+returns-2 : tie.Need-returns-2 Inv-loop μ-loop
+returns-2 c =
+    let l = c .before in
+    sym (l .loop .inv .1 ∙ void-end _ _ (l .loop .k) (l .before .size-in .ensures) (omega arith))
+
+pub log-void-spec : {M : Type 1} → statement M
+log-void-spec =
+    tie.close
+    (tie.spec
+    Inv-loop
+    μ-loop
+    size-in-requires
+    cast-size
+    loop-holds
+    record-at-requires
+    slice-aggregate-all-zero
+    all-zero-requires
+    returns
+    add-k
+    loop-less
+    loop-again
+    returns-2)

@@ -1,0 +1,13 @@
+use Rattle.card.proofs.InPlace.{size-in}
+use borrow.Author.Needs.{needs}
+use Rattle.card.proofs.reading.size_in.Statement.{statement}
+use Rattle.card.proofs.reading.size_in.Tie as tie
+
+byte-at-requires : tie.Need-byte-at-requires
+byte-at-requires c κs = search needs
+
+returns : tie.Need-returns
+returns c = size-in (c .before .before .args .memory .now) _ (c .byte-at .ensures)
+
+pub size-in-spec : {M : Type 1} → statement M
+size-in-spec = tie.close (tie.spec byte-at-requires returns)

@@ -1,0 +1,53 @@
+-- Where a card lies in the 4,096 bytes; docs/LAYOUT.md has the table. Assumes nothing.
+--   0 magic, which names this layout; 1 root; 2 the fixed part; 64 and 128 the copies of block H; 256 and 1,024 the copies of
+--   block C; 2,048 the ring of log records, one slot more than the log's size.
+-- Root bit 0 says which copy of H is live, bit 1 which copy of C.
+use mathlib.Core.Bool.{cond}
+use Prim.Native.Nat.{ℕ, suc, _+_, _-_, _*_, _/_, _%_}
+use lib.Dec.{leb}
+use Rattle.card.specs.Card.{recordSize}
+
+abbrev pub memorySize : ℕ
+memorySize = 4096
+
+abbrev pub magic : ℕ
+magic = 0xD1
+
+abbrev pub fixedAt : ℕ
+fixedAt = 2
+
+abbrev pub fixedSize : ℕ
+fixedSize = 19
+
+abbrev pub hotSize : ℕ
+hotSize = 7
+
+abbrev pub coldSize : ℕ
+coldSize = 202
+
+abbrev pub ringAt : ℕ
+ringAt = 2048
+
+-- the live copies under a root
+abbrev pub hotAt : ℕ → ℕ
+hotAt root = 64 + 64 * (root % 2)
+
+abbrev pub coldAt : ℕ → ℕ
+coldAt root = 256 + 768 * (root / 2 % 2)
+
+-- the root with the other copy of H, of C, of both
+abbrev pub flipHot : ℕ → ℕ
+flipHot root = root / 2 * 2 + (1 - root % 2)
+
+abbrev pub flipCold : ℕ → ℕ
+flipCold root = (1 - root / 2 % 2) * 2 + root % 2
+
+abbrev pub flipBoth : ℕ → ℕ
+flipBoth root = (1 - root / 2 % 2) * 2 + (1 - root % 2)
+
+-- of a ring of size + 1 slots, the slot of the record that k newer ones follow; k = size is the spare slot
+unfoldable pub slot : ℕ → ℕ → ℕ → ℕ
+slot size newest k = cond (leb k newest) (newest - k) (newest + suc size - k)
+
+abbrev pub slotAt : ℕ → ℕ → ℕ → ℕ
+slotAt size newest k = ringAt + recordSize * slot size newest k

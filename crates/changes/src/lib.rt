@@ -1,0 +1,10 @@
+// The stores that change a card: into what is not live, and the root last.
+mod bytes;
+pub mod changing;
+pub mod installing;
+
+pub use changing::commit_both;
+pub use changing::commit_entry;
+pub use changing::commit_parameters;
+pub use changing::commit_state;
+pub use installing::install;

@@ -1,0 +1,32 @@
+// Cryptograms: each side's proof that it holds the session key.
+ghost use mathlib.Core.Path.{_≡_};
+ghost use mathlib.Core.List.{_++_};
+ghost use Rattle.channel.specs.Channel.{cardCryptogram, hostCryptogram};
+use octets::paste;
+use tdes::signature;
+
+// One challenge after the other.
+fn both(first: [u8; 8], second: [u8; 8]) -> [u8; 16]
+    ensures { λ r. ⌜ r ≡ first ++ second ⌝ }
+{
+    let mut r = [0u8; 16];
+    paste(&mut r, 0, &first);
+    paste(&mut r, 8, &second);
+    r
+}
+
+// What the card shows: the host's challenge first.
+pub fn card_cryptogram(enc: [u8; 16], host: [u8; 8], card: [u8; 8]) -> [u8; 8]
+    ensures { λ r. ⌜ r ≡ cardCryptogram enc host card ⌝ }
+{
+    let text = both(host, card);
+    signature(enc, [0; 8], &text)
+}
+
+// What the host shows: the card's challenge first.
+pub fn host_cryptogram(enc: [u8; 16], host: [u8; 8], card: [u8; 8]) -> [u8; 8]
+    ensures { λ r. ⌜ r ≡ hostCryptogram enc host card ⌝ }
+{
+    let text = both(card, host);
+    signature(enc, [0; 8], &text)
+}

@@ -1,0 +1,42 @@
+// What travels enciphered: bank information in CBC, keys and PINs in ECB.
+ghost use mathlib.Core.Path.{_≡_};
+ghost use Rattle.channel.specs.Channel.{bankSent, bankReceived, received};
+use tdes::cbc_decipher;
+use tdes::cbc_encipher;
+use tdes::ecb;
+
+// Bank information as it is sent.
+pub fn bank_sent(dek: [u8; 16], value: [u8; 16]) -> [u8; 16]
+    ensures { λ r. ⌜ r ≡ bankSent dek value ⌝ }
+{
+    let mut text = value;
+    cbc_encipher(dek, [0; 8], &mut text);
+    text
+}
+
+// Bank information as it was before it was sent.
+pub fn bank_received(dek: [u8; 16], value: [u8; 16]) -> [u8; 16]
+    ensures { λ r. ⌜ r ≡ bankReceived dek value ⌝ }
+{
+    let mut text = value;
+    cbc_decipher(dek, [0; 8], &mut text);
+    text
+}
+
+// A PIN block that was sent under a key.
+pub fn received8(key: [u8; 16], value: [u8; 8]) -> [u8; 8]
+    ensures { λ r. ⌜ r ≡ received key value ⌝ }
+{
+    let mut text = value;
+    ecb(key, true, &mut text);
+    text
+}
+
+// Three keys that were sent under a key.
+pub fn received48(key: [u8; 16], value: [u8; 48]) -> [u8; 48]
+    ensures { λ r. ⌜ r ≡ received key value ⌝ }
+{
+    let mut text = value;
+    ecb(key, true, &mut text);
+    text
+}

@@ -1,0 +1,68 @@
+-- INITIALIZE TRANSACTION 94 44, P1 00 debit, 01 cash credit, 02 bank credit, P2 00; currency, amount; signed. Steps 7 to 11.
+-- Assumes nothing.
+use mathlib.Core.Bool.{Bool, true, false, not, _&&_, _||_}
+use mathlib.Core.List.{List, [], _++_}
+use Prim.Native.Nat.{ℕ, _+_}
+use lib.Dec.{ltb, leb, eqb}
+use Rattle.octets.specs.Choice.{pick, refuse}
+use Rattle.octets.specs.Words.{wordAt}
+use Rattle.card.specs.declared.head.Head.{Head}
+use Rattle.session.specs.declared.Pending.{Pending}
+use Rattle.session.specs.declared.Pending.the-variants.{Debiting, Crediting}
+use Rattle.session.specs.declared.Session.{Session}
+use Rattle.session.specs.Session.{ended, answered}
+use Rattle.session.specs.Access.{access, hasRmac, DEBIT, CREDIT, CREDIT-IDENT}
+use Rattle.channel.specs.Channel.{rmacOf, bankSent}
+use Rattle.commands_spec.specs.declared.outcome.Effect.the-variants.{Unchanged}
+use Rattle.commands_spec.specs.declared.outcome.Outcome.{Outcome}
+use Rattle.commands_spec.specs.Outcomes.{done, decided}
+use Rattle.commands_spec.specs.Updates.{dekOf}
+use Rattle.commands_spec.specs.Transaction.{notAboveZero}
+
+-- "P1 02 without bank information or PIN: 6A81"
+unfoldable pub lacks : ℕ → Bool → Bool → Bool
+lacks p1 bank pin = eqb p1 0x02 && not (bank && pin)
+
+-- "Access DEBIT, CREDIT, CREDIT-IDENT"
+unfoldable pub needed : ℕ → ℕ
+needed p1 = pick (eqb p1 0x00) DEBIT (pick (eqb p1 0x01) CREDIT CREDIT-IDENT)
+
+unfoldable pub initializeStatus : Bool → Bool → ℕ → ℕ → Bool → ℕ → ℕ → ℕ → ℕ → ℕ → Bool → ℕ → ℕ → ℕ → ℕ
+initializeStatus personalized lacking level need rmac number maxnumber currency ours amount debit maxdebit balance maxbalance =
+    refuse (not personalized) 0x6985
+    (refuse lacking 0x6A81
+    (refuse (ltb level need) 0x6982
+    (refuse (not rmac) 0x6982
+    (refuse (leb maxnumber number) 0x9410
+    (refuse (not (eqb currency ours)) 0x9411
+    (refuse (notAboveZero amount) 0x9412
+    (refuse (debit && (ltb maxdebit amount || ltb balance amount)) 0x9413
+    (refuse (not debit && ltb maxbalance (balance + amount)) 0x9414
+    0x9000))))))))
+
+-- the status word on a card and in a session
+unfoldable pub initializeJudged : Head → Session → ℕ → ℕ → ℕ → ℕ
+initializeJudged h s p1 currency amount =
+    let p = h .purse .parameters in
+    initializeStatus (p .personalized) (lacks p1 (p .bank .defined) (h .pin .defined)) (access (s .channel .level) (s .verified)) (needed p1)
+    (hasRmac (s .channel .level)) (h .state .number) (h .shared .maxnumber) currency (p .currency) amount (eqb p1 0x00) (p .maxdebit)
+    (h .state .balance) (p .maxbalance)
+
+-- "Answer: identifier, bank information if P1 02"
+unfoldable pub initializeAnswer : Head → Session → ℕ → List ℕ
+initializeAnswer h s p1 =
+    h .purse .parameters .identifier
+    ++ pick (eqb p1 0x02) (bankSent (dekOf (s .channel .level) h) (h .purse .parameters .bank .value)) []
+
+-- the amount is noted, a debit's or a credit's
+unfoldable pub noted : ℕ → ℕ → Pending
+noted p1 amount = pick (eqb p1 0x00) (Debiting amount) (Crediting amount)
+
+unfoldable pub initializeTransactionOf : Head → Session → ℕ → List ℕ → Outcome
+initializeTransactionOf h s p1 body =
+    let currency = wordAt body 0 in
+    let amount = wordAt body 2 in
+    let answer = initializeAnswer h s p1 in
+    let mac = rmacOf (s .channel .mac) (s .channel .rmac) (s .channel .cmac) answer in
+    decided (initializeJudged h s p1 currency amount) h (ended s)
+    (done Unchanged h (answered (noted p1 amount) mac s) (answer ++ mac))

@@ -1,0 +1,47 @@
+-- VERIFY PIN 94 20 00 00: "8 bytes under the ENC session key; not signed. Unpersonalized 6985; no PIN 6A81; below CREDIT 6982; no
+-- tries 6983. A wrong or ill-formed PIN: one try fewer, flag cleared, 6300. Right: tries full, flag set." The try is spent before the
+-- PIN is judged: the first of the two changes is `tried` of the card's state, whatever was sent. Assumes nothing.
+use mathlib.Core.Bool.{Bool, true, false, not}
+use mathlib.Core.List.{List, []}
+use Prim.Native.Nat.{ℕ, _-_}
+use lib.Dec.{ltb, eqb}
+use Rattle.octets.specs.Choice.{pick, refuse}
+use Rattle.octets.specs.Bytes.{same}
+use Rattle.octets.specs.Words.{word}
+use Rattle.octets.specs.Buffers.{holding}
+use Rattle.card.specs.declared.head.Head.{Head}
+use Rattle.card.specs.Card.{void}
+use Rattle.session.specs.declared.Session.{Session}
+use Rattle.session.specs.Session.{ended, flagged}
+use Rattle.session.specs.Access.{access, CREDIT}
+use Rattle.channel.specs.Channel.{received}
+use Rattle.commands_spec.specs.declared.outcome.Effect.the-variants.{PinTry}
+use Rattle.commands_spec.specs.declared.outcome.Outcome.{Outcome}
+use Rattle.commands_spec.specs.Outcomes.{done, decided, tried}
+use Rattle.commands_spec.specs.Updates.{withState, withTries}
+
+unfoldable pub verifyStatus : Bool → Bool → ℕ → ℕ → ℕ
+verifyStatus personalized defined level tries =
+    refuse (not personalized) 0x6985
+    (refuse (not defined) 0x6A81
+    (refuse (ltb level CREDIT) 0x6982
+    (refuse (eqb tries 0) 0x6983
+    0x9000)))
+
+-- the PIN is judged
+unfoldable pub judged : Bool → Head → Session → Outcome
+judged true h s = done (PinTry true) (withTries (h .fixed .maxtries) h) (flagged true s) []
+judged false h s =
+    record {
+      status = 0x6300;
+      effect = PinTry false;
+      head = withState (tried (h .state)) h;
+      entry = void;
+      reply = holding (word 0x6300);
+      session = flagged false s;
+    }
+
+unfoldable pub verifyPinOf : Head → Session → List ℕ → Outcome
+verifyPinOf h s body =
+    decided (verifyStatus (h .purse .parameters .personalized) (h .pin .defined) (access (s .channel .level) (s .verified)) (h .state .tries)) h (ended s)
+    (judged (same (received (s .channel .enc) body) (h .pin .block)) h s)

@@ -1,0 +1,6 @@
+// The twelve commands on a card in hand.
+pub mod outcome;
+pub mod store;
+
+pub use outcome::Effect;
+pub use outcome::Outcome;

@@ -1,0 +1,31 @@
+// What commands do to a card's head, what they say of it, and what they give. Heads, sessions and outcomes go by value.
+mod data;
+mod outcomes;
+mod status;
+mod tlv;
+mod updates;
+
+pub use data::agent_of;
+pub use data::bank_of;
+pub use data::datum;
+pub use data::datum_set;
+pub use data::parameter_set;
+pub use outcomes::decided;
+pub use outcomes::done;
+pub use outcomes::refused;
+pub use outcomes::tried;
+pub use status::administrative;
+pub use status::operational;
+pub use tlv::complete;
+pub use tlv::personalized;
+pub use tlv::stored;
+pub use tlv::stored_all;
+pub use tlv::within;
+pub use updates::dek_of;
+pub use updates::keys_of;
+pub use updates::with_keys;
+pub use updates::with_maxnumber;
+pub use updates::with_parameters;
+pub use updates::with_pin;
+pub use updates::with_state;
+pub use updates::with_tries;

@@ -1,0 +1,76 @@
+// The session: a value that each call takes and hands back.
+mod changes;
+mod numbers;
+mod packing;
+mod rights;
+
+pub use changes::answered;
+pub use changes::chained;
+pub use changes::closed;
+pub use changes::ended;
+pub use changes::flagged;
+pub use changes::offered;
+pub use changes::opened;
+pub use changes::reselected;
+pub use changes::unselected;
+pub use numbers::set_number;
+pub use numbers::set_of;
+pub use packing::Unpacked;
+pub use packing::pack;
+pub use packing::unpack;
+pub use rights::ADMIN;
+pub use rights::CREDIT;
+pub use rights::CREDIT_IDENT;
+pub use rights::DEBIT;
+pub use rights::PUBLIC;
+pub use rights::access;
+pub use rights::access_of;
+pub use rights::has_rmac;
+pub use rights::is_open;
+
+// Key sets 1, 2 and 3.
+pub enum Set {
+    Debit,
+    Credit,
+    Admin,
+}
+
+// The secure channel: none, or the key set that opened it, at security level 01 (C-MAC) or 11 (with R-MAC).
+pub enum Level {
+    Closed,
+    Mac(Set),
+    Rmac(Set),
+}
+
+// The channel's session keys, its last accepted C-MAC and its last R-MAC; zeros where it is closed.
+pub struct Channel {
+    pub level: Level,
+    pub enc: [u8; 16],
+    pub mac: [u8; 16],
+    pub cmac: [u8; 8],
+    pub rmac: [u8; 8],
+}
+
+// What the last command left to be completed: INITIALIZE UPDATE under a key set, or INITIALIZE TRANSACTION of an amount.
+pub enum Pending {
+    Nothing,
+    Update(Set),
+    Debiting(u16),
+    Crediting(u16),
+}
+
+// What INITIALIZE UPDATE prepared: session keys and the host cryptogram that is to come; zeros where none is pending.
+pub struct Offer {
+    pub enc: [u8; 16],
+    pub mac: [u8; 16],
+    pub expected: [u8; 8],
+}
+
+// `verified` is the PIN flag.
+pub struct Session {
+    pub selected: bool,
+    pub verified: bool,
+    pub channel: Channel,
+    pub pending: Pending,
+    pub offer: Offer,
+}
