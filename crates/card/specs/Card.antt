@@ -15,18 +15,22 @@ use Rattle.card.specs.declared.head.Head.{Head}
 abbrev pub recordSize : ℕ
 recordSize = 24
 
+-- a void record
 abbrev pub void : List ℕ
 void = zeros recordSize
 
+-- the head, and the log
 pub record Card : Type 0 where
   pub head : Head
   pub log : List (List ℕ)
 
 -- ---- 01: "All else starts undefined and zero, tries full."
 
+-- an undefined key set
 abbrev pub noKeys : KeySet
 noKeys = record { defined = false; enc = zeros 16; mac = zeros 16; dek = zeros 16 }
 
+-- parameters before personalization
 abbrev pub noParameters : Parameters
 noParameters =
     record {
@@ -39,9 +43,11 @@ noParameters =
       agent = record { length = 0; value = zeros 16 };
     }
 
+-- a purse before personalization
 abbrev pub noPurse : Purse
 noPurse = record { parameters = noParameters; debit = noKeys; credit = noKeys }
 
+-- a fixed part of zeros, which no card has
 abbrev pub noFixed : Fixed
 noFixed = record { aidlen = 0; aid = zeros 16; logsize = 0; maxtries = 0 }
 
@@ -56,5 +62,6 @@ freshHead fixed admin =
       state = record { number = 0; balance = 0; tries = fixed .maxtries };
     }
 
+-- and every record void
 unfoldable pub fresh : Fixed → KeySet → Card
 fresh fixed admin = record { head = freshHead fixed admin; log = replicate (fixed .logsize) void }

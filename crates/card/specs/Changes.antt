@@ -25,35 +25,44 @@ use Rattle.card.specs.Reading.{rootOf, fixedOf, hotOf, fixedIn, newestIn
 
 -- ---- the bytes of each block, as Reading reads them
 
+-- a flag: 1 for yes
 abbrev pub flagByte : Bool → ℕ
 flagByte true = 1
 flagByte false = 0
 
+-- the fixed part
 unfoldable pub fixedBytes : Fixed → List ℕ
 fixedBytes f = f .aidlen ∷ f .aid ++ f .logsize ∷ f .maxtries ∷ []
 
+-- block H, with the newest slot and the number of records
 unfoldable pub hotBytes : State → ℕ → ℕ → List ℕ
 hotBytes s newest filled = word (s .number) ++ word (s .balance) ++ s .tries ∷ newest ∷ filled ∷ []
 
+-- tags 01 to 04, 06 and 07
 unfoldable pub parameterBytes : Parameters → List ℕ
 parameterBytes p =
     flagByte (p .personalized) ∷ p .identifier ++ word (p .currency) ++ word (p .maxbalance) ++ word (p .maxdebit)
     ++ flagByte (p .bank .defined) ∷ p .bank .value ++ p .agent .length ∷ p .agent .value
 
+-- S-ENC, S-MAC and DEK
 unfoldable pub keyBytes : KeySet → List ℕ
 keyBytes k = k .enc ++ k .mac ++ k .dek
 
+-- key sets 1 and 2, each with its flag
 unfoldable pub keySetBytes : Purse → List ℕ
 keySetBytes p = flagByte (p .debit .defined) ∷ keyBytes (p .debit) ++ flagByte (p .credit .defined) ∷ keyBytes (p .credit)
 
+-- tag 05, key set 3 and the PIN
 unfoldable pub sharedBytes : Shared → Pin → List ℕ
 sharedBytes s p = word (s .maxnumber) ++ keyBytes (s .admin) ++ flagByte (p .defined) ∷ p .block
 
+-- block C
 unfoldable pub coldBytes : Head → List ℕ
 coldBytes h = parameterBytes (h .purse .parameters) ++ keySetBytes (h .purse) ++ sharedBytes (h .shared) (h .pin)
 
 -- ---- the kinds of change: H alone; H and a log record; C alone; both
 
+-- each with what it writes
 pub data Change : Type 0 where
   state : State → Change
   entry : State → List ℕ → Change
@@ -83,6 +92,7 @@ changed (both h) c =
 
 -- ---- their stores
 
+-- the root, a single store
 abbrev pub rootStore : ℕ → List Store
 rootStore root = record { at = 1; value = root } ∷ []
 
@@ -90,6 +100,7 @@ rootStore root = record { at = 1; value = root } ∷ []
 unfoldable pub hotStores : State → List ℕ → List Store
 hotStores s m = writes (hotAt (flipHot (rootOf m))) (hotBytes s (newestIn (hotOf m)) (filledIn (hotOf m)))
 
+-- C's other copy
 unfoldable pub coldStores : Head → List ℕ → List Store
 coldStores h m = writes (coldAt (flipCold (rootOf m))) (coldBytes h)
 
@@ -101,10 +112,12 @@ spare m = let size = fixedIn (fixedOf m) .logsize in slot size (newestIn (hotOf 
 abbrev pub grown : List ℕ → ℕ
 grown m = let n = filledIn (hotOf m) in pick (ltb n (fixedIn (fixedOf m) .logsize)) (n + 1) n
 
+-- H's other copy and the spare slot
 unfoldable pub entryStores : State → List ℕ → List ℕ → List Store
 entryStores s r m =
     writes (hotAt (flipHot (rootOf m))) (hotBytes s (spare m) (grown m)) ++ writes (ringAt + recordSize * spare m) r
 
+-- the stores of a change: what is not live, and then the root
 unfoldable pub plan : Change → List ℕ → List Store
 plan (state s) m = hotStores s m ++ rootStore (flipHot (rootOf m))
 plan (entry s r) m = entryStores s r m ++ rootStore (flipHot (rootOf m))
@@ -120,6 +133,7 @@ storeCount (both h) = 210
 
 -- ---- a whole card, H and C in their first copies: the magic byte goes first and comes last
 
+-- the fixed part, H, C and the slots
 unfoldable pub imagePlan : List ℕ → List ℕ → List ℕ → List ℕ → List Store
 imagePlan fixed hot cold slots =
     record { at = 0; value = 0 } ∷ rootStore 0 ++ writes fixedAt fixed ++ writes (hotAt 0) hot ++ writes (coldAt 0) cold ++ writes ringAt slots
@@ -131,6 +145,7 @@ installPlan fixed admin =
     let h = freshHead fixed admin in
     imagePlan (fixedBytes fixed) (hotBytes (h .state) 0 0) (coldBytes h) []
 
+-- how many stores installation has
 abbrev pub installCount : ℕ
 installCount = 231
 

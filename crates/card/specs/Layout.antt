@@ -7,24 +7,31 @@ use Prim.Native.Nat.{ℕ, suc, _+_, _-_, _*_, _/_, _%_}
 use lib.Dec.{leb}
 use Rattle.card.specs.Card.{recordSize}
 
+-- 01: "4,096-byte card memory"
 abbrev pub memorySize : ℕ
 memorySize = 4096
 
+-- the byte that names this layout
 abbrev pub magic : ℕ
 magic = 0xD1
 
+-- where the fixed part starts
 abbrev pub fixedAt : ℕ
 fixedAt = 2
 
+-- how long it is
 abbrev pub fixedSize : ℕ
 fixedSize = 19
 
+-- how long block H is
 abbrev pub hotSize : ℕ
 hotSize = 7
 
+-- how long block C is
 abbrev pub coldSize : ℕ
 coldSize = 202
 
+-- where the ring starts
 abbrev pub ringAt : ℕ
 ringAt = 2048
 
@@ -32,6 +39,7 @@ ringAt = 2048
 abbrev pub hotAt : ℕ → ℕ
 hotAt root = 64 + 64 * (root % 2)
 
+-- the same of C
 abbrev pub coldAt : ℕ → ℕ
 coldAt root = 256 + 768 * (root / 2 % 2)
 
@@ -39,9 +47,11 @@ coldAt root = 256 + 768 * (root / 2 % 2)
 abbrev pub flipHot : ℕ → ℕ
 flipHot root = root / 2 * 2 + (1 - root % 2)
 
+-- of C
 abbrev pub flipCold : ℕ → ℕ
 flipCold root = (1 - root / 2 % 2) * 2 + root % 2
 
+-- of both
 abbrev pub flipBoth : ℕ → ℕ
 flipBoth root = (1 - root / 2 % 2) * 2 + (1 - root % 2)
 
@@ -49,5 +59,6 @@ flipBoth root = (1 - root / 2 % 2) * 2 + (1 - root % 2)
 unfoldable pub slot : ℕ → ℕ → ℕ → ℕ
 slot size newest k = cond (leb k newest) (newest - k) (newest + suc size - k)
 
+-- its address
 abbrev pub slotAt : ℕ → ℕ → ℕ → ℕ
 slotAt size newest k = ringAt + recordSize * slot size newest k

@@ -7,6 +7,7 @@ use lib.Dec.{leb, eqb}
 use lib.ListN.{getD, take, drop}
 use Rattle.octets.specs.Tests.{allTrue}
 
+-- the nibbles of bytes
 unfoldable pub nibbles : List ℕ → List ℕ
 nibbles [] = []
 nibbles (b ∷ block) = b / 16 ∷ b % 16 ∷ nibbles block

@@ -32,6 +32,7 @@ fixedTests f =
 unfoldable pub keysOk : KeySet → Bool
 keysOk k = k .defined || allTrue (allZero (k .enc) ∷ allZero (k .mac) ∷ allZero (k .dek) ∷ [])
 
+-- undefined bank information is zero
 unfoldable pub bankOk : Bank → Bool
 bankOk b = b .defined || allZero (b .value)
 
@@ -56,6 +57,7 @@ unfoldable pub purseTests : Purse → List Bool
 purseTests p =
     keysOk (p .debit) ∷ keysOk (p .credit) ∷ (not (p .parameters .personalized) || allTrue (p .debit .defined ∷ p .credit .defined ∷ [])) ∷ []
 
+-- a defined PIN is well formed, an undefined one zero
 unfoldable pub pinOk : Pin → Bool
 pinOk p = pick (p .defined) (wellFormed (p .block)) (allZero (p .block))
 
@@ -68,6 +70,7 @@ stateTests h =
     ∷ (h .purse .parameters .personalized || eqb (h .shared .maxnumber) 0)
     ∷ h .shared .admin .defined ∷ []
 
+-- all of them
 unfoldable pub properTests : Head → List Bool
 properTests h =
     allTrue (fixedTests (h .fixed)) ∷ allTrue (parameterTests (h .purse .parameters)) ∷ allTrue (purseTests (h .purse))
@@ -83,6 +86,7 @@ pub record Bytes (n : ℕ) (l : List ℕ) : Type 0 where
   pub size : length l ≡ n
   pub each : AreBytes l
 
+-- a key set's keys have 16 bytes each
 pub record Keys (k : KeySet) : Type 0 where
   pub enc : Bytes 16 (k .enc)
   pub mac : Bytes 16 (k .mac)
@@ -101,6 +105,7 @@ pub record Sized (h : Head) : Type 0 where
   pub credit : Keys (h .purse .credit)
   pub pin : Bytes 8 (h .pin .block)
 
+-- a card that a memory may read as
 pub record Proper (c : Card) : Type 0 where
   pub sized : Sized (c .head)
   pub tests : allTrue (properTests (c .head)) ≡ true

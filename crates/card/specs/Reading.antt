@@ -24,15 +24,19 @@ use Rattle.card.specs.Proper.{properTests, allVoid}
 
 -- ---- the live parts of memory
 
+-- the root byte
 abbrev pub rootOf : List ℕ → ℕ
 rootOf m = byteAt m 1
 
+-- the fixed part
 abbrev pub fixedOf : List ℕ → List ℕ
 fixedOf m = part m fixedAt fixedSize
 
+-- the live copy of H
 abbrev pub hotOf : List ℕ → List ℕ
 hotOf m = part m (hotAt (rootOf m)) hotSize
 
+-- the live copy of C
 abbrev pub coldOf : List ℕ → List ℕ
 coldOf m = part m (coldAt (rootOf m)) coldSize
 
@@ -42,9 +46,11 @@ coldOf m = part m (coldAt (rootOf m)) coldSize
 abbrev pub flag : ℕ → Bool
 flag b = eqb b 1
 
+-- the fixed part
 unfoldable pub fixedIn : List ℕ → Fixed
 fixedIn f = record { aidlen = byteAt f 0; aid = field f 1 16; logsize = byteAt f 17; maxtries = byteAt f 18 }
 
+-- tags 14 to 16
 unfoldable pub stateIn : List ℕ → State
 stateIn h = record { number = wordAt h 0; balance = wordAt h 2; tries = byteAt h 4 }
 
@@ -52,9 +58,11 @@ stateIn h = record { number = wordAt h 0; balance = wordAt h 2; tries = byteAt h
 abbrev pub newestIn : List ℕ → ℕ
 newestIn h = byteAt h 5
 
+-- how many records were made
 abbrev pub filledIn : List ℕ → ℕ
 filledIn h = byteAt h 6
 
+-- tags 01 to 04, 06 and 07
 unfoldable pub parametersIn : List ℕ → Parameters
 parametersIn c =
     record {
@@ -71,16 +79,20 @@ parametersIn c =
 unfoldable pub keysIn : Bool → List ℕ → ℕ → KeySet
 keysIn defined c at = record { defined = defined; enc = field c at 16; mac = field c (at + 16) 16; dek = field c (at + 32) 16 }
 
+-- with key sets 1 and 2
 unfoldable pub purseIn : List ℕ → Purse
 purseIn c =
     record { parameters = parametersIn c; debit = keysIn (flag (byteAt c 45)) c 46; credit = keysIn (flag (byteAt c 94)) c 95 }
 
+-- tag 05 and key set 3
 unfoldable pub sharedIn : List ℕ → Shared
 sharedIn c = record { maxnumber = wordAt c 143; admin = keysIn true c 145 }
 
+-- the PIN block
 unfoldable pub pinIn : List ℕ → Pin
 pinIn c = record { defined = flag (byteAt c 193); block = field c 194 8 }
 
+-- the head that memory says
 unfoldable pub headIn : List ℕ → Head
 headIn m =
     record {
@@ -103,6 +115,7 @@ abbrev pub rows : ℕ → (ℕ → List ℕ) → List (List ℕ)
 rows zero f = []
 rows (suc n) f = f 0 ∷ rows n (λ k. f (suc k))
 
+-- the log that memory says
 unfoldable pub logIn : List ℕ → List (List ℕ)
 logIn m = rows (fixedIn (fixedOf m) .logsize) (recordIn m)
 
@@ -116,6 +129,7 @@ formedTests m =
     ∷ leb (filledIn (hotOf m)) (headIn m .fixed .logsize)
     ∷ (headIn m .purse .parameters .personalized || allVoid (logIn m)) ∷ []
 
+-- memory reads as a card
 unfoldable pub readable : List ℕ → Bool
 readable m = allTrue (formedTests m ++ properTests (headIn m))
 
@@ -127,5 +141,6 @@ readCard m = pick (readable m) (some (record { head = headIn m; log = logIn m })
 abbrev pub noCard : Reading
 noCard = record { ok = false; head = freshHead noFixed noKeys }
 
+-- the same as the code has it: whether there is a card, and its head
 unfoldable pub reading : List ℕ → Reading
 reading m = pick (readable m) (record { ok = true; head = headIn m }) noCard

@@ -14,6 +14,7 @@ pub record Called : Type 0 where
   pub answer : ℕ
   pub area : List ℕ
 
+-- of an answer and an area
 abbrev pub called : ℕ → List ℕ → Called
 called answer area = record { answer = answer; area = area }
 

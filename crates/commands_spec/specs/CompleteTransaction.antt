@@ -31,12 +31,14 @@ isNoted (Update set) = false
 isNoted (Debiting amount) = true
 isNoted (Crediting amount) = true
 
+-- and it is a debit's
 unfoldable pub isDebit : Pending → Bool
 isDebit Nothing = false
 isDebit (Update set) = false
 isDebit (Debiting amount) = true
 isDebit (Crediting amount) = false
 
+-- steps 7 to 11
 unfoldable pub completeStatus : Bool → Bool → Bool → Bool → ℕ → ℕ → ℕ
 completeStatus personalized noted rmac keeps number maxnumber =
     refuse (not personalized) 0x6985
@@ -46,6 +48,7 @@ completeStatus personalized noted rmac keeps number maxnumber =
     (refuse (not keeps) 0x6985
     0x9000))))
 
+-- the status word on a card and in a session
 unfoldable pub completeJudged : Head → Session → ℕ
 completeJudged h s =
     completeStatus (h .purse .parameters .personalized) (isNoted (s .pending)) (hasRmac (s .channel .level))
@@ -61,9 +64,11 @@ unfoldable pub logRecord : Bool → ℕ → State → ℕ → List ℕ → List 
 logRecord debit amount after currency context =
     word (after .number) ++ word currency ++ word (logAmount debit amount) ++ word (after .balance) ++ context
 
+-- "Answer, all new: identifier, number, operational status"
 unfoldable pub completeAnswer : Head → List ℕ
 completeAnswer h = h .purse .parameters .identifier ++ word (h .state .number) ++ operational h
 
+-- the command past step 6
 unfoldable pub completeTransactionOf : Head → Session → List ℕ → Outcome
 completeTransactionOf h s context =
     let debit = isDebit (s .pending) in

@@ -24,6 +24,7 @@ maximumOk v = eqb (length v) 2 && leb (wordAt v 0) 32767
 unfoldable pub bankLength : ℕ → Bool
 bankLength n = eqb n 0 || eqb n 16
 
+-- "5–16"
 unfoldable pub agentLength : ℕ → Bool
 agentLength n = eqb n 0 || (leb 5 n && leb n 16)
 
@@ -43,6 +44,7 @@ valueOk tag v =
 unfoldable pub bankOf : List ℕ → List ℕ → Bank
 bankOf dek v = pick (eqb (length v) 0) (record { defined = false; value = zeros 16 }) (record { defined = true; value = bankReceived dek (field v 0 16) })
 
+-- an agent's AID, zeros after it
 unfoldable pub agentOf : List ℕ → Agent
 agentOf v = record { length = min (length v) 16; value = field v 0 16 }
 

@@ -31,6 +31,7 @@ authenticated set h s p1 command body =
     (pick (not (same (part body 8 8) mac)) (refused h (closed s) 0x6982)
     (done Unchanged h (opened (record { level = levelFor p1 set; enc = s .offer .enc; mac = s .offer .mac; cmac = mac; rmac = zeros 8 }) s) []))
 
+-- the command past step 5, by what is pending
 unfoldable pub externalAuthenticateOf : Pending → Head → Session → ℕ → List ℕ → List ℕ → Outcome
 externalAuthenticateOf (Update set) h s p1 command body = authenticated set h s p1 command body
 externalAuthenticateOf Nothing h s p1 command body = refused h (ended s) 0x6985

@@ -11,6 +11,7 @@ use Rattle.commands_spec.specs.declared.outcome.Outcome.{Outcome}
 use Rattle.commands_spec.specs.Outcomes.{done}
 use Rattle.commands_spec.specs.Data.{datum}
 
+-- the command past step 5
 unfoldable pub getDataOf : Head → Session → ℕ → Outcome
 getDataOf h s tag =
     let v = datum h (s .verified) tag in

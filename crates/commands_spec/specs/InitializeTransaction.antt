@@ -27,6 +27,7 @@ lacks p1 bank pin = eqb p1 0x02 && not (bank && pin)
 unfoldable pub needed : ℕ → ℕ
 needed p1 = pick (eqb p1 0x00) DEBIT (pick (eqb p1 0x01) CREDIT CREDIT-IDENT)
 
+-- the first rule that refuses, in 01's order: 7, 8, 9, 10, 11
 unfoldable pub initializeStatus : Bool → Bool → ℕ → ℕ → Bool → ℕ → ℕ → ℕ → ℕ → ℕ → Bool → ℕ → ℕ → ℕ → ℕ
 initializeStatus personalized lacking level need rmac number maxnumber currency ours amount debit maxdebit balance maxbalance =
     refuse (not personalized) 0x6985
@@ -58,6 +59,7 @@ initializeAnswer h s p1 =
 unfoldable pub noted : ℕ → ℕ → Pending
 noted p1 amount = pick (eqb p1 0x00) (Debiting amount) (Crediting amount)
 
+-- the command past step 6
 unfoldable pub initializeTransactionOf : Head → Session → ℕ → List ℕ → Outcome
 initializeTransactionOf h s p1 body =
     let currency = wordAt body 0 in

@@ -23,9 +23,11 @@ offer k host card =
     let enc = sessionKey (k .enc) host card in
     record { enc = enc; mac = sessionKey (k .mac) host card; expected = hostCryptogram enc host card }
 
+-- "ten zeros, set, 01, card challenge .., card cryptogram"
 unfoldable pub updateAnswer : ℕ → List ℕ → List ℕ → List ℕ → List ℕ
 updateAnswer set enc host card = zeros 10 ++ set ∷ 0x01 ∷ card ++ cardCryptogram enc host card
 
+-- the command past step 5
 unfoldable pub initializeUpdateOf : Head → Session → ℕ → List ℕ → List ℕ → Outcome
 initializeUpdateOf h s p1 host card =
     let k = keysOf (setOf p1) h in

@@ -15,6 +15,7 @@ use Rattle.commands_spec.specs.declared.outcome.Effect.{Effect}
 use Rattle.commands_spec.specs.declared.outcome.Effect.the-variants.{Unchanged, StateOnly, StateAndEntry, ParametersOnly, StateAndParameters, PinTry}
 use Rattle.commands_spec.specs.declared.outcome.Outcome.{Outcome}
 
+-- a refusal
 unfoldable pub refused : Head → Session → ℕ → Outcome
 refused h s w = record { status = w; effect = Unchanged; head = h; entry = void; reply = holding (word w); session = s }
 

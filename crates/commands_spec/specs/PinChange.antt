@@ -17,6 +17,7 @@ use Rattle.commands_spec.specs.declared.outcome.Outcome.{Outcome}
 use Rattle.commands_spec.specs.Outcomes.{done, decided}
 use Rattle.commands_spec.specs.Updates.{withTries, withPin, dekOf}
 
+-- steps 8, 9 and 11; `good`: the block is well formed
 unfoldable pub pinStatus : Bool → Bool → ℕ → Bool → ℕ
 pinStatus unblock defined level good =
     refuse (unblock && not defined) 0x6A81
@@ -24,6 +25,7 @@ pinStatus unblock defined level good =
     (refuse (not unblock && not good) 0x6A80
     0x9000))
 
+-- the command past step 6; no data unblock
 unfoldable pub pinChangeOf : Head → Session → List ℕ → Outcome
 pinChangeOf h s body =
     let unblock = eqb (length body) 0 in

@@ -24,6 +24,7 @@ locked tag balance = leb 0x14 tag || eqb tag 0x01 || (eqb tag 0x02 && ltb 0 bala
 unfoldable pub undercuts : ℕ → ℕ → ℕ → ℕ → Bool
 undercuts tag value balance number = pick (eqb tag 0x03) (ltb value balance) (pick (eqb tag 0x05) (ltb value number) false)
 
+-- steps 7, 8, 9 and 11; `good`: length and range of the value
 unfoldable pub dataStatus : Bool → Bool → ℕ → Bool → Bool → ℕ
 dataStatus personalized lockedTag level good undercut =
     refuse (not personalized) 0x6985
@@ -33,10 +34,12 @@ dataStatus personalized lockedTag level good undercut =
     (refuse undercut 0x6A80
     0x9000))))
 
+-- over a tag and a value
 unfoldable pub putDataStatus : Bool → ℕ → ℕ → Bool → ℕ → ℕ → ℕ → ℕ
 putDataStatus personalized tag level good value balance number =
     dataStatus personalized (locked tag balance) level good (undercuts tag value balance number)
 
+-- the command past step 6
 unfoldable pub putDataOf : Head → Session → ℕ → List ℕ → Outcome
 putDataOf h s tag v =
     decided

@@ -17,12 +17,15 @@ use Rattle.commands_spec.specs.declared.outcome.Outcome.{Outcome}
 use Rattle.commands_spec.specs.Outcomes.{done, decided}
 use Rattle.commands_spec.specs.Updates.{withKeys, dekOf}
 
+-- S-ENC, S-MAC and DEK, 16 bytes each
 unfoldable pub keySet : List ℕ → KeySet
 keySet l = record { defined = true; enc = field l 0 16; mac = field l 16 16; dek = field l 32 16 }
 
+-- step 9
 unfoldable pub putKeyStatus : ℕ → ℕ
 putKeyStatus level = refuse (ltb level ADMIN) 0x6982 0x9000
 
+-- the command past step 6
 unfoldable pub putKeyOf : Head → Session → ℕ → List ℕ → Outcome
 putKeyOf h s p2 body =
     decided (putKeyStatus (access (s .channel .level) (s .verified))) h (ended s)

@@ -13,5 +13,6 @@ use Rattle.commands_spec.specs.Outcomes.{done}
 unfoldable pub asked : List ℕ → ℕ
 asked command = byteAt command 2 - 1
 
+-- the command past step 5
 unfoldable pub readRecordOf : Head → Session → List ℕ → Outcome
 readRecordOf h s r = done Unchanged h (ended s) r

@@ -69,6 +69,7 @@ authorized g h s a command =
     (signedOf g h (chained mac s) a (dataOf command (a .lc - macSize)))
     (refused h (closed s) 0x6982)
 
+-- steps 3 to 5 by the kind of command, and step 2's refusals
 unfoldable pub onInstruction : Instruction → Head → List ℕ → Session → Apdu → List ℕ → List ℕ → Outcome
 onInstruction (IsPlain p) h r s a command random =
     decided (plainStatus p (s .selected) a (h .fixed .logsize)) h (ended s) (plainOf p h r s a command (dataOf command (a .lc)) random)
@@ -77,6 +78,7 @@ onInstruction (IsSigned g) h r s a command random =
 onInstruction UnknownClass h r s a command random = refused h (ended s) 0x6E00
 onInstruction UnknownInstruction h r s a command random = refused h (ended s) 0x6D00
 
+-- step 2, and step 1's refusal
 unfoldable pub onParsed : Parsed → Head → List ℕ → Session → List ℕ → List ℕ → Outcome
 onParsed (Command a) h r s command random = onInstruction (instruction (a .cla) (a .ins)) h r s a command random
 onParsed WrongLength h r s command random = refused h (ended s) 0x6700

@@ -14,9 +14,11 @@ use Rattle.commands_spec.specs.declared.outcome.Outcome.{Outcome}
 use Rattle.commands_spec.specs.Outcomes.{refused, done}
 use Rattle.commands_spec.specs.Status.{administrative, operational}
 
+-- "identifier, administrative and operational status"
 unfoldable pub selectAnswer : Head → Bool → List ℕ
 selectAnswer h verified = h .purse .parameters .identifier ++ administrative h verified ∷ operational h
 
+-- the command past step 5
 unfoldable pub selectOf : Head → Session → List ℕ → Outcome
 selectOf h s aid =
     pick (same aid (take (h .fixed .aidlen) (h .fixed .aid)))

@@ -26,6 +26,7 @@ within (suc n) [] = true
 within (suc n) (tag ∷ []) = false
 within (suc n) (tag ∷ size ∷ l) = leb size (length l) && within n (drop size l)
 
+-- a TLV was refused
 unfoldable pub spoiled : Stored → Stored
 spoiled st = record { good = false; seen = st .seen; head = st .head }
 
@@ -56,6 +57,7 @@ unfoldable pub complete : List ℕ → Bool
 complete seen =
     eqb (getD seen 1 0) 1 && eqb (getD seen 2 0) 1 && eqb (getD seen 3 0) 1 && eqb (getD seen 4 0) 1 && eqb (getD seen 5 0) 1
 
+-- steps 7, 9 and 11; `keyed`: sets 1 and 2 are defined, `inside`: no TLV past the end, `good`: the rest of the data
 unfoldable pub storeStatus : Bool → Bool → ℕ → Bool → Bool → ℕ
 storeStatus personalized keyed level inside good =
     refuse (personalized || not keyed) 0x6985
@@ -64,6 +66,7 @@ storeStatus personalized keyed level inside good =
     (refuse (not good) 0x6A80
     0x9000)))
 
+-- the personalized head
 unfoldable pub personalized : Head → Head
 personalized h =
     let p = h .purse .parameters in
@@ -71,6 +74,7 @@ personalized h =
     (record { personalized = true; identifier = p .identifier; currency = p .currency; maxbalance = p .maxbalance; maxdebit = p .maxdebit; bank = p .bank; agent = p .agent })
     h
 
+-- the command past step 6
 unfoldable pub storeDataOf : Head → Session → List ℕ → Outcome
 storeDataOf h s body =
     let st = storedAll (length body) (dekOf (s .channel .level) h) body (unread h) in

@@ -9,6 +9,7 @@ use Rattle.octets.specs.Choice.{pick}
 unfoldable pub notAboveZero : ℕ → Bool
 notAboveZero amount = eqb amount 0x0000 || leb 0x8000 amount
 
+-- the balance after a debit or a credit
 unfoldable pub newBalance : Bool → ℕ → ℕ → ℕ
 newBalance debit amount balance = pick debit (balance - amount) (balance + amount)
 

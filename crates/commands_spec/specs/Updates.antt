@@ -12,12 +12,15 @@ use Rattle.session.specs.declared.Level.the-variants.{Closed, Mac, Rmac}
 use Rattle.session.specs.declared.Set.{Set}
 use Rattle.session.specs.declared.Set.the-variants.{Debit, Credit, Admin}
 
+-- number, balance and tries
 unfoldable pub withState : State → Head → Head
 withState s h = record { fixed = h .fixed; shared = h .shared; purse = h .purse; pin = h .pin; state = s }
 
+-- tries alone
 unfoldable pub withTries : ℕ → Head → Head
 withTries n h = withState (record { number = h .state .number; balance = h .state .balance; tries = n }) h
 
+-- tags 01 to 04, 06 and 07
 unfoldable pub withParameters : Parameters → Head → Head
 withParameters p h =
     record {
@@ -50,6 +53,7 @@ keysOf Debit h = h .purse .debit
 keysOf Credit h = h .purse .credit
 keysOf Admin h = h .shared .admin
 
+-- a key set
 unfoldable pub withKeys : Set → KeySet → Head → Head
 withKeys Debit k h =
     record { fixed = h .fixed; shared = h .shared; purse = record { parameters = h .purse .parameters; debit = k; credit = h .purse .credit }; pin = h .pin; state = h .state }

@@ -20,6 +20,7 @@ use Rattle.commands_spec.specs.declared.outcome.Outcome.{Outcome}
 use Rattle.commands_spec.specs.Outcomes.{done, decided, tried}
 use Rattle.commands_spec.specs.Updates.{withState, withTries}
 
+-- steps 7 to 9, and 6983
 unfoldable pub verifyStatus : Bool → Bool → ℕ → ℕ → ℕ
 verifyStatus personalized defined level tries =
     refuse (not personalized) 0x6985
@@ -41,6 +42,7 @@ judged false h s =
       session = flagged false s;
     }
 
+-- the command past step 5
 unfoldable pub verifyPinOf : Head → Session → List ℕ → Outcome
 verifyPinOf h s body =
     decided (verifyStatus (h .purse .parameters .personalized) (h .pin .defined) (access (s .channel .level) (s .verified)) (h .state .tries)) h (ended s)

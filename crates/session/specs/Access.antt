@@ -12,15 +12,19 @@ use Rattle.session.specs.declared.Level.the-variants.{Closed, Mac, Rmac}
 abbrev pub PUBLIC : ℕ
 PUBLIC = 0
 
+-- set 1
 abbrev pub DEBIT : ℕ
 DEBIT = 1
 
+-- set 2
 abbrev pub CREDIT : ℕ
 CREDIT = 2
 
+-- set 2 and PIN validated
 abbrev pub CREDIT-IDENT : ℕ
 CREDIT-IDENT = 3
 
+-- set 3
 abbrev pub ADMIN : ℕ
 ADMIN = 4
 

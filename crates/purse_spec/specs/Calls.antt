@@ -1,0 +1,21 @@
+-- What a call gives: document 01, "What a call can say". Assumes nothing.
+use mathlib.Core.List.{List}
+use Prim.Native.Nat.{ℕ}
+use lib.ListN.{length, drop}
+use Rattle.octets.specs.Choice.{pick}
+use Rattle.stores.specs.Stores.{Store, applied, leaves, answers, reports}
+use Rattle.session.specs.declared.Session.{Session}
+
+-- the answer, the reported stores, the session handed back, memory, and the response area with the response's length.
+-- After answer 7 there is no session: the one here is the unselected one.
+pub record Run : Type 0 where
+  pub answer : ℕ
+  pub count : ℕ
+  pub session : Session
+  pub memory : List ℕ
+  pub length : ℕ
+  pub response : List ℕ
+
+-- "Answers 1 to 6 and 8 change no area and no session", and "report 0"
+unfoldable pub refusal : ℕ → Session → List ℕ → List ℕ → Run
+refusal n s m area = record { answer = n; count = 0; session = s; memory = m; length = 0; response = area }

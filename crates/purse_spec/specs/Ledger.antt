@@ -1,0 +1,101 @@
+-- The ledger: document 01's book, "a sum and a note", "fed the calls, their answers and status words, and the transaction numbers read
+-- from memory". The sum is kept as completed credits and completed debits. Assumes nothing.
+use mathlib.Core.Bool.{Bool, true, false, _&&_, _||_}
+use mathlib.Core.List.{List, [], _∷_}
+use mathlib.Core.Option.{Option, none, some}
+use Prim.Native.Nat.{ℕ, _+_, _-_}
+use lib.Dec.{ltb, eqb}
+use lib.ListN.{length}
+use Rattle.octets.specs.Choice.{pick}
+use Rattle.octets.specs.Bytes.{byteAt}
+use Rattle.octets.specs.Words.{wordAt}
+use Rattle.card.specs.Card.{Card}
+use Rattle.card.specs.Reading.{readCard}
+use Rattle.purse_spec.specs.Calls.{Run}
+use Rattle.purse_spec.specs.History.{Call, install, start, send, State, run, next, after, isStart}
+
+-- an amount, a debit's taken as negative
+pub record Note : Type 0 where
+  pub debit : Bool
+  pub amount : ℕ
+
+-- the sum, as completed credits and completed debits, and the note
+pub record Ledger : Type 0 where
+  pub credits : ℕ
+  pub debits : ℕ
+  pub note : Option Note
+
+-- "sets it to 0 and drops the note"
+unfoldable pub empty : Ledger
+empty = record { credits = 0; debits = 0; note = none }
+
+-- the note, or none
+unfoldable pub noting : Option Note → Ledger → Ledger
+noting n b = record { credits = b .credits; debits = b .debits; note = n }
+
+-- "the note is added to the sum"
+unfoldable pub addedTo : Option Note → Ledger → Ledger
+addedTo none b = b
+addedTo (some n) b =
+    record {
+      credits = pick (n .debit) (b .credits) (b .credits + n .amount);
+      debits = pick (n .debit) (b .debits + n .amount) (b .debits);
+      note = b .note;
+    }
+
+-- the status word that ends a response
+unfoldable pub statusWord : Run → ℕ
+statusWord r = wordAt (r .response) (r .length - 2)
+
+-- INITIALIZE TRANSACTION, by its first two bytes
+unfoldable pub isInitialize : List ℕ → Bool
+isInitialize bytes = eqb (byteAt bytes 0) 0x94 && eqb (byteAt bytes 1) 0x44
+
+-- the same of COMPLETE TRANSACTION
+unfoldable pub isComplete : List ℕ → Bool
+isComplete bytes = eqb (byteAt bytes 0) 0x94 && eqb (byteAt bytes 1) 0x46
+
+-- what INITIALIZE TRANSACTION notes: P1 00 is a debit, and the amount is the second word of the data
+unfoldable pub noteOf : List ℕ → Note
+noteOf bytes = record { debit = eqb (byteAt bytes 2) 0x00; amount = wordAt bytes 7 }
+
+-- the transaction number that memory reads as having, and whether it has grown
+unfoldable pub numberOf : Option Card → Option ℕ
+numberOf none = none
+numberOf (some c) = some (c .head .state .number)
+
+-- it has grown
+unfoldable pub grown : Option ℕ → Option ℕ → Bool
+grown (some x) (some y) = ltb x y
+grown (some x) none = false
+grown none y = false
+
+-- a finished command
+unfoldable pub finished : List ℕ → ℕ → Ledger → Ledger
+finished bytes w b =
+    pick (isInitialize bytes && eqb w 0x9000) (noting (some (noteOf bytes)) b)
+    (pick (isComplete bytes && eqb w 0x9000) (addedTo (b .note) b)
+    (noting none b))
+
+-- one call: its answer and status word, and whether the number has grown behind it
+unfoldable pub fed : Call → Run → Bool → Ledger → Ledger
+fed (install d limit) r grew b = pick (eqb (r .answer) 0) empty b
+fed (start limit) r grew b = pick (eqb (r .answer) 0) (noting none b) b
+fed (send bytes random area limit) r grew b =
+    pick (eqb (r .answer) 0) (finished bytes (statusWord r) b)
+    (pick (eqb (r .answer) 7 && isComplete bytes && grew) (addedTo (b .note) b) b)
+
+-- "the start-ups directly behind it, if any yet"
+unfoldable pub startsOf : List Call → List Call
+startsOf [] = []
+startsOf (c ∷ cs) = pick (isStart c) (c ∷ startsOf cs) []
+
+-- the number read before a call, and after the start-ups directly behind it
+unfoldable pub grewIn : Call → List Call → State → Bool
+grewIn c cs st =
+    grown (numberOf (readCard (st .memory))) (numberOf (readCard (after (startsOf cs) (next c st) .memory)))
+
+-- the ledger of a list
+unfoldable pub kept : List Call → State → Ledger → Ledger
+kept [] st b = b
+kept (c ∷ cs) st b = kept cs (next c st) (fed c (run c st) (grewIn c cs st) b)

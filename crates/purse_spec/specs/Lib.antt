@@ -1,0 +1,6 @@
+pub mod Calls
+pub mod Installation
+pub mod Startup
+pub mod Commands
+pub mod History
+pub mod Ledger
