@@ -1,10 +1,8 @@
 // Where the parts of a card lie under a root.
 ghost use mathlib.Core.Path.{_≡_};
-ghost use Prim.Native.Nat.{_+_, _≤_, _<_};
+ghost use Prim.Native.Nat.{_+_, _<_};
 ghost use lib.Dec.{ltb};
-ghost use lib.ListN.{length};
 ghost use Rattle.octets.specs.Choice.{pick};
-ghost use Rattle.octets.specs.Bytes.{part};
 ghost use Rattle.card.specs.Layout.{hotAt, coldAt, flipHot, flipCold, flipBoth, slot};
 
 pub const MEMORY_SIZE: usize = 4096;
@@ -73,14 +71,6 @@ pub fn slot(size: u8, newest: u8, k: usize) -> usize
         return 0;
     }
     end - k
-}
-
-// The `n` bytes from an index on.
-pub fn part(s: &[u8], at: usize, n: usize) -> &[u8]
-    requires { ⌜ at + n ≤ length (now s) ⌝ }
-    ensures { λ r. ⌜ now r ≡ part (now (s .entry)) at n ⌝ }
-{
-    &s[at..at + n]
 }
 
 // The spare slot, which the next record takes.

@@ -1,9 +1,9 @@
 // The card that memory reads as.
 ghost use mathlib.Core.Bool.{_||_};
 ghost use mathlib.Core.Path.{_≡_};
-ghost use Prim.Native.Nat.{_<_};
+ghost use Prim.Native.Nat.{_+_, _≤_, _<_};
 ghost use lib.ListN.{length};
-ghost use Rattle.octets.specs.Bytes.{byteAt};
+ghost use Rattle.octets.specs.Bytes.{byteAt, part};
 ghost use Rattle.octets.specs.Tests.{allTrue};
 ghost use Rattle.card.specs.Layout.{memorySize};
 ghost use Rattle.card.specs.Proper.{allVoid};
@@ -117,15 +117,23 @@ fn formed(memory: &[u8]) -> bool
     all_true(&tests)
 }
 
+// The `n` bytes from an index on.
+fn part(s: &[u8], at: usize, n: usize) -> &[u8]
+    requires { ⌜ at + n ≤ length (now s) ⌝ }
+    ensures { λ r. ⌜ now r ≡ part (now (s .entry)) at n ⌝ }
+{
+    &s[at..at + n]
+}
+
 // The head of the live parts.
 fn head_in(memory: &[u8]) -> Head
     requires { ⌜ length (now memory) ≡ memorySize ⌝ }
     ensures { λ r. ⌜ r ≡ headIn (now (memory .entry)) ⌝ }
 {
     let root = octets::byte_at(memory, layout::ROOT_AT);
-    let f = layout::part(memory, layout::FIXED_AT, layout::FIXED_SIZE);
-    let h = layout::part(memory, layout::hot_at(root), layout::HOT_SIZE);
-    let c = layout::part(memory, layout::cold_at(root), layout::COLD_SIZE);
+    let f = part(memory, layout::FIXED_AT, layout::FIXED_SIZE);
+    let h = part(memory, layout::hot_at(root), layout::HOT_SIZE);
+    let c = part(memory, layout::cold_at(root), layout::COLD_SIZE);
     let fixed = fixed_in(f);
     let shared = shared_in(c);
     let purse = purse_in(c);

@@ -1,7 +1,8 @@
 // The stores that change a card: into what is not live, and the root last.
 mod bytes;
-pub mod changing;
-pub mod installing;
+mod changing;
+mod installing;
+mod pieces;
 
 pub use changing::commit_both;
 pub use changing::commit_entry;

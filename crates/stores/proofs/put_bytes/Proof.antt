@@ -1,4 +1,4 @@
--- The invariant: memory is as the first i bytes leave it.
+-- The invariant: memory is as the first i bytes leave it, and so is the room.
 use Prim.Native.Nat.{_-_, _≤_}
 use mathlib.Core.Path.{_≡_, refl, sym, _∙_}
 use native.Mathlib.Omega.{arith}
@@ -12,22 +12,24 @@ use Rattle.stores.proofs.put_bytes.Statement.{statement}
 use Rattle.stores.proofs.put_bytes.Tie as tie
 
 abbrev Inv-loop : tie.InvT-loop
-Inv-loop mem₀ at bytes done limit i₀ mem i =
-    (i ≤ length bytes) × (length mem ≡ length mem₀) × (mem ≡ leaves (writes at (take i bytes)) (limit - done) mem₀)
+Inv-loop mem₀ at bytes room rest₀ i₀ mem rest i =
+    (i ≤ length bytes) × (length mem ≡ length mem₀) × (rest ≡ room - i) × (mem ≡ leaves (writes at (take i bytes)) room mem₀)
 
 abbrev μ-loop : tie.MeasureT-loop
-μ-loop mem₀ at bytes done limit i₀ mem i = length bytes - i
+μ-loop mem₀ at bytes room rest₀ i₀ mem rest i = length bytes - i
 
-add-result : tie.Need-add-result Inv-loop μ-loop
-add-result c = omega arith
+left-requires : tie.Need-left-requires Inv-loop μ-loop
+left-requires c κs = search needs
 
 returns : tie.Need-returns Inv-loop μ-loop
-returns c = let a = c .before .before .before .args in (refl, sym (writes-past (a .at) (a .bytes .now) _ (a .mem .now) (c .if1 .taken)))
+returns c =
+    let a = c .before .before .before .before .args in
+    (c .left .ensures, sym (writes-past (a .at) (a .bytes .now) _ (a .mem .now) (c .before .if1 .taken)))
 
 loop-holds : tie.Need-loop-holds Inv-loop μ-loop
 loop-holds c =
     let a = c .before .before .before .args in
-    (omega arith, refl, sym (writes-nothing (a .at) (a .limit - a .done) (a .mem .now)))
+    (omega arith, refl, omega arith, sym (writes-nothing (a .at) (a .room) (a .mem .now)))
 
 add-put : tie.Need-add-put Inv-loop μ-loop
 add-put c = omega arith
@@ -35,11 +37,8 @@ add-put c = omega arith
 shared-slice-read-put : tie.Need-shared-slice-read-put Inv-loop μ-loop
 shared-slice-read-put c = omega arith
 
-add-put-2 : tie.Need-add-put-2 Inv-loop μ-loop
-add-put-2 c = omega arith
-
 put-requires : tie.Need-put-requires Inv-loop μ-loop
-put-requires c κs = omega arith
+put-requires c κs = search needs
 
 add-i : tie.Need-add-i Inv-loop μ-loop
 add-i c = omega arith
@@ -49,14 +48,13 @@ loop-less c = omega arith
 
 loop-again : tie.Need-loop-again Inv-loop μ-loop
 loop-again c =
-    let a = c .before .before .before .before .before .before .before .before .before .before .args in
-    let l = c .before .before .before .before .before .before .loop in
     let p = c .before .before .put in
-    let e = turn (a .bytes .now) (l .i) _ (a .limit) (a .done) (a .at) (a .mem .now) (l .mem) (p .last .0) (omega arith) refl (l .inv .2) (p .ensures .1) in
-    (omega arith, p .kept .0 ∙ l .inv .1, e)
-
-add-result-2 : tie.Need-add-result-2 Inv-loop μ-loop
-add-result-2 c = omega arith
+    let l = c .before .before .before .before .before .before .loop in
+    let a = c .before .before .before .before .before .before .before .before .before .before .args in
+    let e = turn (a .bytes .now) (l .i) _ (a .room) (l .rest) (a .at) (a .mem .now) (l .mem) (p .last .0) (omega arith) refl (l .inv .2) (l .inv .3) (p .ensures .1) in
+    let o = p .ensures .0 in
+    let k = l .inv .2 in
+    (omega arith, p .kept .0 ∙ l .inv .1, omega arith, e)
 
 same-length : tie.Need-same-length Inv-loop μ-loop
 same-length c = search needs
@@ -66,7 +64,7 @@ returns-2 c =
     let a = c .before .before .before .before .before .args in
     let l = c .before .loop in
     let k : l .i ≡ length (a .bytes .now) = omega arith in
-    (omega arith, l .inv .2 ∙ rw (k, take-length (a .bytes .now)))
+    (l .inv .2 ∙ rw k, l .inv .3 ∙ rw (k, take-length (a .bytes .now)))
 
 pub put-bytes-spec : {M : Type 1} → statement M
 put-bytes-spec =
@@ -74,16 +72,14 @@ put-bytes-spec =
     (tie.spec
     Inv-loop
     μ-loop
-    add-result
+    left-requires
     returns
     loop-holds
     add-put
     shared-slice-read-put
-    add-put-2
     put-requires
     add-i
     loop-less
     loop-again
-    add-result-2
     same-length
     returns-2)

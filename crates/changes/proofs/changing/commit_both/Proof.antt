@@ -30,9 +30,6 @@ put-bytes-requires c κs = search needs
 flip-cold-requires : tie.Need-flip-cold-requires
 flip-cold-requires c κs = search needs
 
-cold-at-requires : tie.Need-cold-at-requires
-cold-at-requires c κs = search needs
-
 put-cold-requires : tie.Need-put-cold-requires
 put-cold-requires c κs = search needs
 
@@ -49,14 +46,13 @@ returns : tie.Need-returns
 returns c =
     let w = c .before .before in
     let v = w .before .before .before .before .before in
-    let u = v .before .before .before .before .before .before in
+    let u = v .before .before .before .before .before in
     let h = u .before .before .before .before .before in
     let n = h .before .before .before .before .before .before in
     let s = n .before .before .before in
-    both-run (s .args .memory .now) _ (n .byte-at .ensures) (s .args .head) _ _ _ _ _ _ _ _ _ _ _ _ _ _ _ _ (h .before .before .before .newest-in .ensures)
+    both-run (s .args .memory .now) _ (n .byte-at .ensures) (s .args .head) _ _ _ _ _ _ _ _ _ _ _ _ _ _ (h .before .before .before .newest-in .ensures)
     (h .before .filled-in .ensures) (h .hot-bytes .ensures) (u .before .before .before .flip-hot .ensures) (u .before .before .hot-at .ensures)
-    (v .before .before .flip-cold .ensures) (v .before .cold-at .ensures) (w .before .flip-both .ensures)
-    (u .put-bytes .ensures) (v .put-cold .ensures) (w .put .ensures)
+    (v .before .flip-cold .ensures) (w .before .flip-both .ensures) (u .put-bytes .ensures) (v .put-cold .ensures) (w .put .ensures)
 
 pub commit-both-spec : {M : Type 1} → statement M
 commit-both-spec =
@@ -71,7 +67,6 @@ commit-both-spec =
     slice-aggregate-put-bytes
     put-bytes-requires
     flip-cold-requires
-    cold-at-requires
     put-cold-requires
     flip-both-requires
     put-requires

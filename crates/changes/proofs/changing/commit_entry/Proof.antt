@@ -1,5 +1,4 @@
 use mathlib.Core.Path.{_≡_}
-use native.Mathlib.Omega.{arith}
 use lib.ListN.{length}
 use Rattle.changes.proofs.Runs.{entry-run}
 use borrow.Author.Needs.{needs}
@@ -58,15 +57,7 @@ put-bytes-requires-2 : tie.Need-put-bytes-requires-2
 put-bytes-requires-2 c κs = search needs
 
 put-requires : tie.Need-put-requires
-put-requires c κs =
-    let a = c .before .before .before in
-    let e = a .before .before .before .before .before in
-    let h : length (e .before .before .before .before .hot-bytes .result) ≡ 7 = search needs in
-    let t = entry-size (e .before .before .before .before .before .before .before .before .before .before .before .before .before .before .before .before .before) in
-    let p = e .before .before .before .before .before .before .before .before .before .before .before .before .before .before .before .before .before .pre in
-    let x = a .put-bytes2 .ensures .0 in
-    let y = e .put-bytes .ensures .0 in
-    omega arith
+put-requires c κs = search needs
 
 same-length : tie.Need-same-length
 same-length c = search needs
@@ -80,10 +71,10 @@ returns c =
     let z = h .before .before .before .before .before .before .before in
     let n = z .before .before in
     let s = n .before .before .before .before in
-    entry-run (s .args .memory .now) _ (n .before .byte-at .ensures) (s .args .state) (s .args .t3) _ _ _ _ _ _ _ _ _ _ _ _ _ _ _ _ (n .flip-hot .ensures)
-    (z .size-in .ensures) (h .before .before .before .before .before .newest-in .ensures) (h .before .before .before .before .spare .ensures)
-    (h .before .before .filled-in .ensures) (h .before .grown .ensures) (h .hot-bytes .ensures) (u .before .before .hot-at .ensures)
-    (u .put-bytes .ensures) (v .put-bytes2 .ensures) (w .put .ensures)
+    entry-run (s .args .memory .now) _ (n .before .byte-at .ensures) (s .args .state) (s .args .t3) _ _ _ _ _ _ _ _ _ _ _ _ _ _ _ (entry-size s)
+    (n .flip-hot .ensures) (z .size-in .ensures) (h .before .before .before .before .before .newest-in .ensures)
+    (h .before .before .before .before .spare .ensures) (h .before .before .filled-in .ensures) (h .before .grown .ensures) (h .hot-bytes .ensures)
+    (u .before .before .hot-at .ensures) (u .put-bytes .ensures) (v .put-bytes2 .ensures) (w .put .ensures)
 
 pub commit-entry-spec : {M : Type 1} → statement M
 commit-entry-spec =

@@ -9,9 +9,6 @@ byte-at-requires c κs = search needs
 flip-cold-requires : tie.Need-flip-cold-requires
 flip-cold-requires c κs = search needs
 
-cold-at-requires : tie.Need-cold-at-requires
-cold-at-requires c κs = search needs
-
 put-cold-requires : tie.Need-put-cold-requires
 put-cold-requires c κs = search needs
 
@@ -25,10 +22,10 @@ returns : tie.Need-returns
 returns c =
     let w = c .before .before in
     let v = w .before .before .before .before in
-    let n = v .before .before .before in
+    let n = v .before .before in
     let s = n .before .before .before .before in
-    parameters-run (s .args .memory .now) _ (n .before .byte-at .ensures) (s .args .head) _ _ _ _ _ _ _ _ (n .flip-cold .ensures) (v .before .cold-at .ensures)
-    (v .put-cold .ensures) (w .put .ensures)
+    parameters-run (s .args .memory .now) _ (n .before .byte-at .ensures) (s .args .head) _ _ _ _ _ _ (n .flip-cold .ensures) (v .put-cold .ensures)
+    (w .put .ensures)
 
 pub commit-parameters-spec : {M : Type 1} → statement M
 commit-parameters-spec =
@@ -36,7 +33,6 @@ commit-parameters-spec =
     (tie.spec
     byte-at-requires
     flip-cold-requires
-    cold-at-requires
     put-cold-requires
     put-requires
     same-length

@@ -40,7 +40,7 @@ returns c =
     let h = v .before .before .before .before in
     let n = h .before .before .before .before .before in
     let s = n .before .before .before .before in
-    state-run (s .args .memory .now) _ (n .before .byte-at .ensures) (s .args .state) _ _ _ _ _ _ _ _ _ _ _ (n .flip-hot .ensures)
+    state-run (s .args .memory .now) _ (n .before .byte-at .ensures) (s .args .state) _ _ _ _ _ _ _ _ _ _ (n .flip-hot .ensures)
     (h .before .before .before .newest-in .ensures) (h .before .filled-in .ensures) (h .hot-bytes .ensures) (v .before .before .hot-at .ensures)
     (v .put-bytes .ensures) (w .put .ensures)
 

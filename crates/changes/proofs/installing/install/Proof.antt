@@ -9,9 +9,6 @@ fresh-head-requires c κs = search needs
 install-front-requires : tie.Need-install-front-requires
 install-front-requires c κs = search needs
 
-cold-at-requires : tie.Need-cold-at-requires
-cold-at-requires c κs = search needs
-
 put-cold-requires : tie.Need-put-cold-requires
 put-cold-requires c κs = search needs
 
@@ -25,10 +22,10 @@ returns : tie.Need-returns
 returns c =
     let w = c .before .before in
     let v = w .before .before .before .before in
-    let t = v .before .before .before .before .before in
+    let t = v .before .before .before .before in
     let s = t .before .before .before .before .before in
-    install-run (s .args .fixed) (s .args .admin) _ _ _ _ _ _ _ _ _ _ (t .before .before .before .fresh-head .ensures) (t .install-front .ensures)
-    (v .before .cold-at .ensures) (v .put-cold .ensures) (w .put .ensures)
+    install-run (s .args .fixed) (s .args .admin) _ _ _ _ _ _ _ _ _ (t .before .before .before .fresh-head .ensures) (t .install-front .ensures)
+    (v .put-cold .ensures) (w .put .ensures)
 
 pub install-spec : {M : Type 1} → statement M
 install-spec =
@@ -36,7 +33,6 @@ install-spec =
     (tie.spec
     fresh-head-requires
     install-front-requires
-    cold-at-requires
     put-cold-requires
     put-requires
     same-length

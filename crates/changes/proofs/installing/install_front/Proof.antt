@@ -1,9 +1,4 @@
-use mathlib.Core.Path.{ap, _∙_}
-use native.Mathlib.Omega.{arith}
-use lib.ListN.{length}
-use Rattle.card.specs.Changes.{fixedBytes}
-use Rattle.card.proofs.RoundTrip.{hot-length}
-use Rattle.changes.proofs.Runs.{held-length, front-run}
+use Rattle.changes.proofs.Runs.{front-run}
 use borrow.Author.Needs.{needs}
 use Rattle.changes.proofs.installing.install_front.Statement.{statement}
 use Rattle.changes.proofs.installing.install_front.Tie as tie
@@ -30,14 +25,7 @@ slice-aggregate-put-bytes-2 : tie.Need-slice-aggregate-put-bytes-2
 slice-aggregate-put-bytes-2 c = search needs
 
 put-bytes-requires-2 : tie.Need-put-bytes-requires-2
-put-bytes-requires-2 c κs =
-    let d = c .before .before .before .before .before in
-    let a = d .before .before .before .before .before .before .before .before .before .before .args in
-    let z = held-length _ (fixedBytes (a .fixed)) 19 (d .before .fixed-bytes .ensures) in
-    let e = d .put-buffer .ensures .0 in
-    let x = d .before .before .before .before .before .put-bytes .ensures .0 in
-    let h = ap length (d .before .before .before .before .before .before .before .before .hot-bytes .ensures) ∙ hot-length (a .state) 0 0 in
-    omega arith
+put-bytes-requires-2 c κs = search needs
 
 same-length : tie.Need-same-length
 same-length c = search needs

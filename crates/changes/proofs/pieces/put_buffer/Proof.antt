@@ -1,4 +1,4 @@
-use Prim.Native.Nat.{ℕ, _+_, _-_}
+use Prim.Native.Nat.{ℕ, _-_}
 use mathlib.Core.Path.{_≡_, ap, _∙_}
 use mathlib.Core.List.{List}
 use native.Mathlib.Omega.{arith}
@@ -7,8 +7,8 @@ use Rattle.octets.specs.Buffers.{content}
 use Rattle.octets.proofs.Holding.{content-front}
 use Rattle.stores.specs.Stores.{writes, leaves}
 use borrow.Author.Needs.{needs}
-use Rattle.changes.proofs.changing.put_buffer.Statement.{statement}
-use Rattle.changes.proofs.changing.put_buffer.Tie as tie
+use Rattle.changes.proofs.pieces.put_buffer.Statement.{statement}
+use Rattle.changes.proofs.pieces.put_buffer.Tie as tie
 
 size-requires : tie.Need-size-requires
 size-requires c κs = search needs
@@ -24,21 +24,19 @@ slice-aggregate-put-bytes c =
     rw (c .before .before .size .ensures, content-front)
 
 put-bytes-requires : tie.Need-put-bytes-requires
-put-bytes-requires c κs =
-    let b = c .before .before .before .before .before .args .b in
-    let l : length (b .bytes) ≡ 128 = search needs in
-    rw (c .before .before .size .ensures, content-front) (omega (arith, length-take (b .len) (b .bytes)))
+put-bytes-requires c κs = search needs
 
 same-length : tie.Need-same-length
 same-length c = search needs
 
 returns : tie.Need-returns
 returns c =
-    let a = c .before .before .before .before .before .before .before .before .args in
-    let e : c .before .before .before .before .before .size .result ≡ length (content (a .b)) = c .before .before .before .before .before .size .ensures in
-    let f : take (c .before .before .before .before .before .size .result) (a .b .bytes) ≡ content (a .b) = rw (e, content-front) in
+    let z = c .before .before .before .before .before in
+    let a = z .before .before .before .args in
+    let e : z .size .result ≡ length (content (a .b)) = z .size .ensures in
+    let f : take (z .size .result) (a .b .bytes) ≡ content (a .b) = rw (e, content-front) in
     let p = c .before .before .put-bytes .ensures in
-    (p .0 ∙ ap (λ (t : List ℕ). a .done + length t) f, p .1 ∙ ap (λ (t : List ℕ). leaves (writes (a .at) t) (a .limit - a .done) (a .memory .now)) f)
+    (p .0 ∙ ap (λ (t : List ℕ). a .room - length t) f, p .1 ∙ ap (λ (t : List ℕ). leaves (writes (a .at) t) (a .room) (a .memory .now)) f)
 
 pub put-buffer-spec : {M : Type 1} → statement M
 put-buffer-spec =

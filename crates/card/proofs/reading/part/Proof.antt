@@ -2,8 +2,8 @@ use Prim.Native.Nat.{_+_, _-_}
 use mathlib.Core.Path.{_≡_}
 use native.Mathlib.Omega.{arith}
 use borrow.Author.Needs.{needs}
-use Rattle.card.proofs.layout.part.Statement.{statement}
-use Rattle.card.proofs.layout.part.Tie as tie
+use Rattle.card.proofs.reading.part.Statement.{statement}
+use Rattle.card.proofs.reading.part.Tie as tie
 
 add-result : tie.Need-add-result
 add-result c = search needs
