@@ -1,0 +1,16 @@
+use mathlib.Core.List.{[]}
+use borrow.Author.Needs.{needs}
+use Rattle.administration.proofs.granting.granted.Statement.{statement}
+use Rattle.administration.proofs.granting.granted.Tie as tie
+
+empty-requires : tie.Need-empty-requires
+empty-requires c κs = search needs
+
+done-requires : tie.Need-done-requires
+done-requires c κs = search needs
+
+returns : tie.Need-returns
+returns c = c .done .ensures [] (c .before .empty .ensures) (search needs)
+
+pub granted-spec : {M : Type 1} → statement M
+granted-spec = tie.close (tie.spec empty-requires done-requires returns)

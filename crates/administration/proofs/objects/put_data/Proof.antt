@@ -1,0 +1,61 @@
+use borrow.Author.Needs.{needs}
+use Rattle.commands_spec.specs.PutData.{putDataOf}
+use Rattle.administration.proofs.objects.put_data.Statement.{statement}
+use Rattle.administration.proofs.objects.put_data.Tie as tie
+
+access-requires : tie.Need-access-requires
+access-requires c κs = search needs
+
+value-ok-requires : tie.Need-value-ok-requires
+value-ok-requires c κs = search needs
+
+word-at-requires : tie.Need-word-at-requires
+word-at-requires c κs = search needs
+
+put-data-status-requires : tie.Need-put-data-status-requires
+put-data-status-requires c κs = search needs
+
+dek-of-requires : tie.Need-dek-of-requires
+dek-of-requires c κs = search needs
+
+datum-set-requires : tie.Need-datum-set-requires
+datum-set-requires c κs = search needs
+
+ended-requires : tie.Need-ended-requires
+ended-requires c κs = search needs
+
+granted-requires : tie.Need-granted-requires
+granted-requires c κs = search needs
+
+decided-requires : tie.Need-decided-requires
+decided-requires c κs = search needs
+
+returns : tie.Need-returns
+unfolding putDataOf
+returns c =
+    rw (
+      ← c .before .before .before .before .before .before .before .before .access .ensures,
+      ← c .before .before .before .before .before .before .before .value-ok .ensures,
+      ← c .before .before .before .before .before .before .word-at .ensures,
+      ← c .before .before .before .before .before .put-data-status .ensures,
+      ← c .before .before .before .before .dek-of .ensures,
+      ← c .before .before .before .datum-set .ensures,
+      ← c .before .before .ended .ensures,
+      ← c .before .granted .ensures,
+    )
+    (c .decided .ensures)
+
+pub put-data-spec : {M : Type 1} → statement M
+put-data-spec =
+    tie.close
+    (tie.spec
+    access-requires
+    value-ok-requires
+    word-at-requires
+    put-data-status-requires
+    dek-of-requires
+    datum-set-requires
+    ended-requires
+    granted-requires
+    decided-requires
+    returns)
