@@ -1,6 +1,5 @@
 // The sums of a transaction. They are made wide enough not to wrap, and compared before they are narrowed.
 ghost use mathlib.Core.Path.{_≡_};
-ghost use Prim.Native.Nat.{_<_};
 ghost use Rattle.commands_spec.specs.Transaction.{newBalance, keepsLimits, logAmount};
 
 // Whether the new balance stays between zero and the maximum balance.
@@ -13,18 +12,17 @@ pub fn keeps_limits(debit: bool, amount: u16, balance: u16, maxbalance: u16) -> 
     balance as u32 + amount as u32 <= maxbalance as u32
 }
 
-// The new balance, where it keeps its limits.
-pub fn new_balance(debit: bool, amount: u16, balance: u16) -> u16
-    requires { ⌜ newBalance debit amount balance < 65536 ⌝ }
+// The new balance; it fits two bytes where it keeps its limits.
+pub fn new_balance(debit: bool, amount: u16, balance: u16) -> u32
     ensures { λ r. ⌜ r ≡ newBalance debit amount balance ⌝ }
 {
     if debit {
         if balance < amount {
             return 0;
         }
-        return balance - amount;
+        return balance as u32 - amount as u32;
     }
-    balance + amount
+    balance as u32 + amount as u32
 }
 
 // The amount as the log has it, a debit's in two's complement.

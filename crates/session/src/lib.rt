@@ -13,6 +13,7 @@ pub use changes::offered;
 pub use changes::opened;
 pub use changes::reselected;
 pub use changes::unselected;
+pub use numbers::amount_of;
 pub use numbers::set_number;
 pub use numbers::set_of;
 pub use packing::Unpacked;

@@ -1,0 +1,115 @@
+use Prim.Native.Nat.{_+_, _-_}
+use mathlib.Core.Bool.{true, false, _&&_}
+use mathlib.Core.Path.{_≡_, refl, sym, _∙_}
+use native.Mathlib.Omega.{arith}
+use borrow.Author.Tests.{not-true, not-false}
+use Rattle.octets.proofs.Rules.{and-left, and-right, and-yes}
+use Rattle.apdu.specs.Lengths.{macSize}
+use Rattle.commands_spec.specs.Respond.{authorized}
+use Rattle.commands.proofs.Bodies.{signed-least, mac-sent}
+use Rattle.commands.proofs.Signatures.{unsigned, wrongly-signed, rightly-signed}
+use borrow.Author.Needs.{needs}
+use Rattle.commands.proofs.signed.authorized.Statement.{statement}
+use Rattle.commands.proofs.signed.authorized.Tie as tie
+
+sub-n : tie.Need-sub-n
+sub-n c = omega (arith, signed-least _ _ (c .before .before .before .before .before .pre .1))
+
+cast-n : tie.Need-cast-n
+cast-n c = search needs
+
+add-cmac : tie.Need-add-cmac
+add-cmac c = search needs
+
+cmac-requires : tie.Need-cmac-requires
+cmac-requires c κs = search needs
+
+is-open-requires : tie.Need-is-open-requires
+is-open-requires c κs = search needs
+
+closed-requires : tie.Need-closed-requires
+closed-requires c κs = search needs
+
+refused-requires : tie.Need-refused-requires
+refused-requires c κs = search needs
+
+returns : tie.Need-returns
+returns c =
+    let d = c .before .before in
+    unsigned _ _ _ _ _ _ (sym (d .before .is-open .ensures) ∙ not-true _ (d .if1 .taken)) (rw (← c .before .closed .ensures) (c .refused .ensures))
+
+add-part8 : tie.Need-add-part8
+add-part8 c = search needs
+
+part8-requires : tie.Need-part8-requires
+part8-requires c κs = search needs
+
+slice-aggregate-same : tie.Need-slice-aggregate-same
+slice-aggregate-same c = search needs
+
+slice-aggregate-same-2 : tie.Need-slice-aggregate-same-2
+slice-aggregate-same-2 c = search needs
+
+same-requires : tie.Need-same-requires
+same-requires c κs = search needs
+
+closed-requires-2 : tie.Need-closed-requires-2
+closed-requires-2 c κs = search needs
+
+refused-requires-2 : tie.Need-refused-requires-2
+refused-requires-2 c κs = search needs
+
+returns-2 : tie.Need-returns-2
+returns-2 c =
+    let d = c .before .before .before in
+    let p = d .before .before .before in
+    let m = p .before .before .before in
+    let s = m .before .before .before .before .before .before in
+    let l = signed-least _ _ (s .pre .1) in
+    wrongly-signed _ _ _ _ _ _
+    (rw (← mac-sent _ _ (s .pre .0) l, ← p .part8 .ensures, ← m .cmac .ensures, ← d .same .ensures) (not-true _ (c .before .before .if2 .taken)))
+    (rw (← c .before .closed2 .ensures) (c .refused2 .ensures))
+
+chained-requires : tie.Need-chained-requires
+chained-requires c κs = search needs
+
+signed-requires : tie.Need-signed-requires
+signed-requires c κs =
+    let s = c .before .before .before .before .before .before .before .before .before .before .before .before .before .before in
+    (s .pre .0, s .pre .1, refl)
+
+returns-3 : tie.Need-returns-3
+returns-3 c =
+    let d = c .before .before .before in
+    let p = d .before .before .before in
+    let o = p .before .before in
+    let m = o .before in
+    let s = m .before .before .before .before .before .before in
+    let l = signed-least _ _ (s .pre .1) in
+    rightly-signed _ _ _ _ _ _ (sym (o .is-open .ensures) ∙ not-false _ (p .before .if1 .left))
+    (rw (← mac-sent _ _ (s .pre .0) l, ← p .part8 .ensures, ← m .cmac .ensures, ← d .same .ensures) (not-false _ (c .before .before .if2 .left)))
+    (rw (← m .cmac .ensures, ← c .before .chained .ensures) (c .signed .ensures))
+
+pub authorized-spec : {M : Type 1} → statement M
+authorized-spec =
+    tie.close
+    (tie.spec
+    sub-n
+    cast-n
+    add-cmac
+    cmac-requires
+    is-open-requires
+    closed-requires
+    refused-requires
+    returns
+    add-part8
+    part8-requires
+    slice-aggregate-same
+    slice-aggregate-same-2
+    same-requires
+    closed-requires-2
+    refused-requires-2
+    returns-2
+    chained-requires
+    signed-requires
+    returns-3)

@@ -1,0 +1,65 @@
+// The six commands without a C-MAC, past step 5.
+ghost use mathlib.Core.Bool.{true};
+ghost use mathlib.Core.Path.{_≡_};
+ghost use Prim.Native.Nat.{_+_, _≤_, _<_};
+ghost use lib.ListN.{length};
+ghost use Rattle.apdu.specs.declared.parsing.Parsed.the-variants.{Command};
+ghost use Rattle.apdu.specs.Lengths.{plainLength};
+ghost use Rattle.apdu.specs.Parsing.{parsed, dataOf};
+ghost use Rattle.commands_spec.specs.Respond.{plainOf};
+ghost use Rattle.commands_spec.specs.Select.{selectOf};
+use apdu::Apdu;
+use apdu::Plain;
+use card::Head;
+use commands_spec::Outcome;
+use octets::part8;
+use octets::part16;
+use opening::external_authenticate;
+use opening::initialize_update;
+use queries::get_data;
+use queries::read_record;
+use queries::select;
+use session::Session;
+use transactions::verify_pin;
+
+// SELECT, the one with data of any length.
+fn select_data(head: Head, session: Session, command: &[u8], lc: u8) -> Outcome
+    requires { ⌜ (0 < lc → 5 + lc ≤ length (now command)) ⌝ }
+    ensures { λ r. ⌜ r ≡ selectOf head session (dataOf (now (command .entry)) lc) ⌝ }
+{
+    if lc == 0 {
+        return select(head, session, &command[0..0]);
+    }
+    select(head, session, &command[5..5 + lc as usize])
+}
+
+pub fn plain(
+    p: Plain,
+    head: Head,
+    entry: [u8; 24],
+    session: Session,
+    a: Apdu,
+    command: &[u8],
+    random: [u8; 8],
+) -> Outcome
+    requires { ⌜ (parsed (now command) ≡ Command a) × (plainLength p (a .lc) ≡ true) ⌝ }
+    ensures { λ r. ⌜ r ≡ plainOf p head entry session a (now (command .entry)) (dataOf (now (command .entry)) (a .lc)) random ⌝ }
+{
+    match p {
+        Plain::Select => select_data(head, session, command, a.lc),
+        Plain::InitializeUpdate => {
+            let host = part8(command, 5);
+            initialize_update(head, session, a.p1, host, random)
+        }
+        Plain::ExternalAuthenticate => {
+            let body = part16(command, 5);
+            external_authenticate(head, session, a.p1, command, body)
+        }
+        Plain::VerifyPin => {
+            let block = part8(command, 5);
+            verify_pin(head, session, block)
+        }
+        Plain::GetData => get_data(head, session, a.p2),
+        Plain::ReadRecord => read_record(head, session, entry),
+    }
+}
