@@ -1,9 +1,6 @@
 -- What a call gives: document 01, "What a call can say". Assumes nothing.
 use mathlib.Core.List.{List}
 use Prim.Native.Nat.{ℕ}
-use lib.ListN.{length, drop}
-use Rattle.octets.specs.Choice.{pick}
-use Rattle.stores.specs.Stores.{Store, applied, leaves, answers, reports}
 use Rattle.session.specs.declared.Session.{Session}
 
 -- the answer, the reported stores, the session handed back, memory, and the response area with the response's length.

@@ -1,6 +1,6 @@
 -- A command on memory: "Order: 1, 3, 4, 8, 2, 5, 6, as far as a call has the argument"; then the command on the card that memory reads
 -- as, and the stores of its changes. Assumes nothing.
-use mathlib.Core.Bool.{Bool, true, false, not}
+use mathlib.Core.Bool.{not}
 use mathlib.Core.List.{List, [], _∷_, _++_}
 use mathlib.Core.Option.{Option, none, some}
 use Prim.Native.Nat.{ℕ}
@@ -9,7 +9,7 @@ use lib.ListN.{length}
 use Rattle.octets.specs.Choice.{pick}
 use Rattle.octets.specs.Bytes.{paste}
 use Rattle.octets.specs.Buffers.{content}
-use Rattle.stores.specs.Stores.{Store, applied, leaves, answers, reports}
+use Rattle.stores.specs.Stores.{Store, applied, leaves}
 use Rattle.card.specs.Card.{Card}
 use Rattle.card.specs.Layout.{memorySize}
 use Rattle.card.specs.Reading.{readCard}

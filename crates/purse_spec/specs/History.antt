@@ -7,6 +7,7 @@ use mathlib.Core.List.{List, [], _∷_}
 use Prim.Native.Nat.{ℕ}
 use lib.Dec.{eqb}
 use Rattle.octets.specs.Choice.{pick}
+use Rattle.octets.specs.Bytes.{AreBytes}
 use Rattle.session.specs.declared.Session.{Session}
 use Rattle.purse_spec.specs.Calls.{Run}
 use Rattle.purse_spec.specs.Installation.{installation}
@@ -24,6 +25,23 @@ pub record State : Type 0 where
   pub memory : List ℕ
   pub session : Session
   pub cut : Bool
+
+-- the same call with another limit
+unfoldable pub limited : ℕ → Call → Call
+limited L (install d limit) = install d L
+limited L (start limit) = start L
+limited L (send bytes random area limit) = send bytes random area L
+
+-- what a call is given are bytes, as its slices have it by their types; the response area may hold anything
+unfoldable pub OfBytes : Call → Type 0
+OfBytes (install d limit) = AreBytes d
+OfBytes (start limit) = Unit {0}
+OfBytes (send bytes random area limit) = AreBytes bytes × AreBytes random
+
+-- the same of every call of a list
+unfoldable pub AllOfBytes : List Call → Type 0
+AllOfBytes [] = Unit {0}
+AllOfBytes (c ∷ cs) = OfBytes c × AllOfBytes cs
 
 -- what a call gives
 unfoldable pub run : Call → State → Run
@@ -58,8 +76,18 @@ unfoldable pub after : List Call → State → State
 after [] st = st
 after (c ∷ cs) st = after cs (next c st)
 
+-- start-ups alone
+unfoldable pub OnlyStarts : List Call → Type 0
+OnlyStarts [] = Unit {0}
+OnlyStarts (c ∷ cs) = (isStart c ≡ true) × OnlyStarts cs
+
 -- "Start-ups alone follow each cut until one finishes", "no cut installation"
 unfoldable pub Admissible : List Call → State → Type 0
 Admissible [] st = Unit {0}
 Admissible (c ∷ cs) st =
     (st .cut ≡ true → isStart c ≡ true) × (isInstall c ≡ true → run c st .answer ≡ 7 → ⊥) × Admissible cs (next c st)
+
+-- a list of demand 3: it "starts with a finished installation on any memory"
+unfoldable pub IsHistory : List Call → State → Type 0
+IsHistory [] st = ⊥
+IsHistory (c ∷ cs) st = (isInstall c ≡ true) × (run c st .answer ≡ 0) × Admissible cs (next c st)

@@ -1,18 +1,17 @@
 -- Installation: document 01, "What the card keeps": "AID 5 to 16 bytes; log size 1 to 50; PIN tries 3 to 15; administration key set, 48
 -- bytes (S-ENC, S-MAC, DEK, 16 each)", in the bench file's order: AID length, AID, log size, tries, keys. Assumes nothing.
-use mathlib.Core.Bool.{Bool, true, false, not, _&&_}
+use mathlib.Core.Bool.{Bool, true, not, _&&_}
 use mathlib.Core.List.{List, []}
 use Prim.Native.Nat.{ℕ, _+_}
 use lib.Dec.{leb, eqb}
 use lib.ListN.{length}
 use Rattle.octets.specs.Choice.{pick}
-use Rattle.octets.specs.Bytes.{byteAt, part, field, zeros}
+use Rattle.octets.specs.Bytes.{byteAt, part, field}
 use Rattle.stores.specs.Stores.{leaves, answers, reports}
 use Rattle.card.specs.declared.head.Fixed.{Fixed}
 use Rattle.card.specs.declared.head.KeySet.{KeySet}
 use Rattle.card.specs.Layout.{memorySize}
 use Rattle.card.specs.Changes.{installPlan}
-use Rattle.session.specs.declared.Session.{Session}
 use Rattle.session.specs.Session.{unselected}
 use Rattle.purse_spec.specs.Calls.{Run, refusal}
 

@@ -1,6 +1,6 @@
--- The ledger: document 01's book, "a sum and a note", "fed the calls, their answers and status words, and the transaction numbers read
--- from memory". The sum is kept as completed credits and completed debits. Assumes nothing.
-use mathlib.Core.Bool.{Bool, true, false, _&&_, _||_}
+-- The ledger: document 01's book, "a sum and a note, is fed the calls, their answers and status words, and the transaction numbers read
+-- from memory. The sum is completed credits less completed debits", kept here as these two. Assumes nothing.
+use mathlib.Core.Bool.{Bool, false, _&&_}
 use mathlib.Core.List.{List, [], _∷_}
 use mathlib.Core.Option.{Option, none, some}
 use Prim.Native.Nat.{ℕ, _+_, _-_}
@@ -14,26 +14,26 @@ use Rattle.card.specs.Reading.{readCard}
 use Rattle.purse_spec.specs.Calls.{Run}
 use Rattle.purse_spec.specs.History.{Call, install, start, send, State, run, next, after, isStart}
 
--- an amount, a debit's taken as negative
+-- an amount, "a debit's as negative"
 pub record Note : Type 0 where
   pub debit : Bool
   pub amount : ℕ
 
--- the sum, as completed credits and completed debits, and the note
+-- completed credits and completed debits, whose difference is the sum, and the note
 pub record Ledger : Type 0 where
   pub credits : ℕ
   pub debits : ℕ
   pub note : Option Note
 
--- "sets it to 0 and drops the note"
+-- "A finished installation sets it to 0 and drops the note"
 unfoldable pub empty : Ledger
 empty = record { credits = 0; debits = 0; note = none }
 
--- the note, or none
+-- another note, or none
 unfoldable pub noting : Option Note → Ledger → Ledger
 noting n b = record { credits = b .credits; debits = b .debits; note = n }
 
--- "the note is added to the sum"
+-- "the note is added to the sum"; where there is none, nothing is
 unfoldable pub addedTo : Option Note → Ledger → Ledger
 addedTo none b = b
 addedTo (some n) b =
@@ -59,25 +59,27 @@ isComplete bytes = eqb (byteAt bytes 0) 0x94 && eqb (byteAt bytes 1) 0x46
 unfoldable pub noteOf : List ℕ → Note
 noteOf bytes = record { debit = eqb (byteAt bytes 2) 0x00; amount = wordAt bytes 7 }
 
--- the transaction number that memory reads as having, and whether it has grown
+-- the transaction number of a card that memory reads as
 unfoldable pub numberOf : Option Card → Option ℕ
 numberOf none = none
 numberOf (some c) = some (c .head .state .number)
 
--- it has grown
+-- whether it has grown, where there is one before and after
 unfoldable pub grown : Option ℕ → Option ℕ → Bool
 grown (some x) (some y) = ltb x y
 grown (some x) none = false
 grown none y = false
 
--- a finished command
+-- a finished command and its status word: "INITIALIZE TRANSACTION with 9000 notes its amount"; "COMPLETE with 9000 .. is completed";
+-- "Other calls drop the note if finished"
 unfoldable pub finished : List ℕ → ℕ → Ledger → Ledger
 finished bytes w b =
     pick (isInitialize bytes && eqb w 0x9000) (noting (some (noteOf bytes)) b)
     (pick (isComplete bytes && eqb w 0x9000) (addedTo (b .note) b)
     (noting none b))
 
--- one call: its answer and status word, and whether the number has grown behind it
+-- one call, what it gave, and whether the number has grown behind it: "COMPLETE with 9000, or a cut one demand 3 counts, is completed";
+-- calls that aren't finished "do nothing" else
 unfoldable pub fed : Call → Run → Bool → Ledger → Ledger
 fed (install d limit) r grew b = pick (eqb (r .answer) 0) empty b
 fed (start limit) r grew b = pick (eqb (r .answer) 0) (noting none b) b
@@ -85,17 +87,17 @@ fed (send bytes random area limit) r grew b =
     pick (eqb (r .answer) 0) (finished bytes (statusWord r) b)
     (pick (eqb (r .answer) 7 && isComplete bytes && grew) (addedTo (b .note) b) b)
 
--- "the start-ups directly behind it, if any yet"
+-- the start-ups that lead a list
 unfoldable pub startsOf : List Call → List Call
 startsOf [] = []
 startsOf (c ∷ cs) = pick (isStart c) (c ∷ startsOf cs) []
 
--- the number read before a call, and after the start-ups directly behind it
+-- demand 3: "the transaction number that memory reads after the start-ups directly behind it, if any yet, has grown"
 unfoldable pub grewIn : Call → List Call → State → Bool
 grewIn c cs st =
     grown (numberOf (readCard (st .memory))) (numberOf (readCard (after (startsOf cs) (next c st) .memory)))
 
--- the ledger of a list
+-- the ledger fed a list of calls, each with what lies behind it
 unfoldable pub kept : List Call → State → Ledger → Ledger
 kept [] st b = b
 kept (c ∷ cs) st b = kept cs (next c st) (fed c (run c st) (grewIn c cs st) b)

@@ -1,0 +1,16 @@
+pub mod Rows
+pub mod Runs
+pub mod Installing
+pub mod Starting
+pub mod Names
+pub mod Performing
+pub mod Typed
+pub mod Cut
+pub mod Readable
+pub mod Responses
+pub mod Answers
+pub mod Refusals
+pub mod Counts
+pub mod Guess
+pub mod Booking
+pub mod Balance

@@ -1,0 +1,43 @@
+-- Document 01, "Readable": "Any call on readable memory, finished or cut, leaves it readable, a cut installation apart", and "A finished
+-- start-up keeps the reading". Assumes nothing.
+use mathlib.Core.Bool.{true}
+use mathlib.Core.List.{List, []}
+use mathlib.Core.Path.{_≡_, refl}
+use Prim.Native.Nat.{ℕ}
+use Rattle.octets.specs.Bytes.{AreBytes}
+use Rattle.card.specs.Reading.{readable}
+use Rattle.card.proofs.Cards.{readable-read, read-readable}
+use Rattle.session.specs.declared.Session.{Session}
+use Rattle.session.specs.Session.{unselected}
+use Rattle.purse_spec.specs.Calls.{Run, refusal}
+use Rattle.purse_spec.specs.Installation.{installation}
+use Rattle.purse_spec.specs.History.{Call, install, start, send, State, OfBytes, run, isInstall}
+use Rattle.purse_spec.proofs.Runs.{installation-runs}
+use Rattle.purse_spec.proofs.Installing.{installed-reads}
+use Rattle.purse_spec.proofs.Typed.{Typed, sound-of}
+use Rattle.purse_spec.proofs.Cut.{command-left}
+use Rattle.purse_spec.proofs.Starting.{startup-keeps}
+
+refusal-readable : (n : ℕ) (s : Session) (m area : List ℕ) → readable m ≡ true → readable (refusal n s m area .memory) ≡ true
+unfolding refusal
+refusal-readable n s m area t = t
+
+-- an installation that isn't cut
+installation-readable : (m d : List ℕ) (limit : ℕ) → AreBytes d → readable m ≡ true → (installation m d limit .answer ≡ 7 → ⊥)
+    → readable (installation m d limit .memory) ≡ true
+installation-readable m d limit f q =
+    installation-runs m (λ (r : ℕ → Run). (r limit .answer ≡ 7 → ⊥) → readable (r limit .memory) ≡ true) d
+    (λ k g h n. refusal-readable k unselected m [] q) (λ e t n. read-readable _ _ (installed-reads m d limit f e t n))
+
+-- any call on readable memory, finished or cut, leaves it readable, a cut installation apart
+pub readable-stays : (x : Call) (st : State) → Typed st → OfBytes x → readable (st .memory) ≡ true → (isInstall x ≡ true → run x st .answer ≡ 7 → ⊥)
+    → readable (run x st .memory) ≡ true
+unfolding run OfBytes isInstall
+readable-stays (install d limit) st t f q n = installation-readable (st .memory) d limit f q (n refl)
+readable-stays (start limit) st t f q n = rw (startup-keeps (st .memory) limit) q
+readable-stays (send bytes random area limit) st t f q n =
+    let m = st .memory in
+    let s = st .session in
+    let e = readable-read m q in
+    let r = command-left m _ s bytes random area limit e (λ l. sound-of m _ s bytes random (t .memory) e (t .session) (f .0) (f .1) l) in
+    read-readable _ (r .0) (r .1)

@@ -1,0 +1,51 @@
+-- Demand 1: "A refusal changes nothing in card memory, except that a wrong PIN costs one try"; and the commands that only read make no
+-- store, whatever they answer. Assumes nothing.
+use mathlib.Core.Bool.{true}
+use mathlib.Core.List.{List, []}
+use mathlib.Core.Option.{some}
+use mathlib.Core.Path.{_≡_, refl}
+use Prim.Native.Nat.{ℕ}
+use native.Mathlib.Omega.{arith}
+use borrow.Author.Tests.{le-ltb}
+use Rattle.card.specs.Card.{Card}
+use Rattle.card.specs.Reading.{readCard}
+use Rattle.apdu.specs.declared.instructions.Plain.the-variants.{VerifyPin}
+use Rattle.apdu.specs.declared.instructions.Instruction.the-variants.{IsPlain}
+use Rattle.commands_spec.specs.declared.outcome.Outcome.{Outcome}
+use Rattle.commands_spec.specs.Respond.{named, respond}
+use Rattle.commands_spec.proofs.Ways.{changes}
+use Rattle.commands_spec.proofs.Refusals.{refusal-changes-nothing}
+use Rattle.commands_spec.proofs.Readers.{isReader, readers-change-nothing}
+use Rattle.purse_spec.specs.Calls.{Run, refusal}
+use Rattle.purse_spec.specs.Commands.{plans, outcomePlan, performed}
+use Rattle.purse_spec.specs.History.{send, State, run}
+use Rattle.purse_spec.proofs.Rows.{leaves-nothing}
+use Rattle.purse_spec.proofs.Runs.{command-on}
+
+-- no store, and every byte of memory as it was
+pub record NoStore (m : List ℕ) (r : Run) : Type 0 where
+  pub count : r .count ≡ 0
+  pub memory : r .memory ≡ m
+
+module _ (st : State) (c : Card) (bytes random area : List ℕ) (limit : ℕ) (e : readCard (st .memory) ≡ some c) where
+  abbrev O : Outcome
+  O = respond c (st .session) bytes random
+
+  performed-none : changes c O ≡ [] → NoStore (st .memory) (performed c O (st .memory) area limit)
+  unfolding performed outcomePlan plans
+  performed-none h = rw (h, le-ltb limit 0 (omega arith)) (record { count = refl; memory = leaves-nothing limit (st .memory) })
+
+  none-stored : changes c O ≡ [] → NoStore (st .memory) (run (send bytes random area limit) st)
+  unfolding run refusal
+  none-stored h =
+      command-on (st .memory) (λ (r : ℕ → Run). NoStore (st .memory) (r limit)) (st .session) bytes random area c e
+      (λ n k l. record { count = refl; memory = refl }) (λ t u. performed-none h)
+
+  -- a refusal, a wrong PIN's 6300 apart
+  pub refusal-stores-nothing : (O .status ≡ 0x9000 → ⊥) → (named bytes ≡ IsPlain VerifyPin → O .status ≡ 0x6300 → ⊥)
+      → NoStore (st .memory) (run (send bytes random area limit) st)
+  refusal-stores-nothing x y = none-stored (refusal-changes-nothing c (st .session) bytes random x y)
+
+  -- SELECT, INITIALIZE UPDATE, EXTERNAL AUTHENTICATE, INITIALIZE TRANSACTION, GET DATA and READ RECORD
+  pub readers-store-nothing : isReader (named bytes) ≡ true → NoStore (st .memory) (run (send bytes random area limit) st)
+  readers-store-nothing x = none-stored (readers-change-nothing c (st .session) bytes random x)

@@ -1,0 +1,86 @@
+-- What the types of the code's areas and values promise of a state, which every call keeps. Assumes nothing.
+use mathlib.Core.List.{List, [], _∷_}
+use mathlib.Core.Option.{some}
+use mathlib.Core.Path.{_≡_}
+use Prim.Native.Nat.{ℕ}
+use lib.Dec.{ltb, eqb}
+use lib.ListN.{length}
+use Rattle.octets.specs.Bytes.{AreBytes}
+use Rattle.card.specs.Card.{Card}
+use Rattle.card.specs.Reading.{readCard}
+use Rattle.card.proofs.Cards.{read-proper}
+use Rattle.card.proofs.Bounds.{install-bytes}
+use Rattle.session.specs.declared.Session.{Session}
+use Rattle.session.proofs.Sizes.{Sized, unselected-sized}
+use Rattle.commands_spec.proofs.Steps.{pick-holds}
+use Rattle.commands_spec.proofs.Sizes.{Sound, session-sized}
+use Rattle.commands_spec.specs.Respond.{respond}
+use Rattle.purse_spec.specs.Calls.{Run, refusal}
+use Rattle.purse_spec.specs.Installation.{fixedOf, keysOf, installation}
+use Rattle.purse_spec.specs.Startup.{startup}
+use Rattle.purse_spec.specs.Commands.{outcomePlan, performed, command}
+use Rattle.purse_spec.specs.History.{Call, install, start, send, State, OfBytes, AllOfBytes, run, next, after}
+use Rattle.purse_spec.proofs.Runs.{installation-runs, startup-runs, command-runs}
+use Rattle.purse_spec.proofs.Installing.{installable}
+use Rattle.purse_spec.proofs.Performing.{performed-bytes}
+
+-- memory is of bytes, and the session's arrays have their sizes
+pub record Typed (st : State) : Type 0 where
+  pub memory : AreBytes (st .memory)
+  pub session : Sized (st .session)
+
+-- what the laws of the commands ask, of the card that memory reads as
+pub sound-of : (m : List ℕ) (c : Card) (s : Session) (bytes random : List ℕ) → AreBytes m → readCard m ≡ some c → Sized s → AreBytes bytes → AreBytes random
+    → length random ≡ 8 → Sound c s bytes random
+sound-of m c s bytes random f e z a b n =
+    record { proper = read-proper m c f e; sized = z; bytes = a; drawn = record { long = n; bytes = b } }
+
+-- the same of what a call gives
+record TypedRun (r : Run) : Type 0 where
+  pub memory : AreBytes (r .memory)
+  pub session : Sized (r .session)
+
+refusal-typed : (n : ℕ) (s : Session) (m area : List ℕ) → AreBytes m → Sized s → TypedRun (refusal n s m area)
+unfolding refusal
+refusal-typed n s m area f z = record { memory = f; session = z }
+
+installation-typed : (m d : List ℕ) (limit : ℕ) → AreBytes m → AreBytes d → TypedRun (installation m d limit)
+installation-typed m d limit f g =
+    installation-runs m (λ (r : ℕ → Run). TypedRun (r limit)) d (λ n l k. refusal-typed n _ m _ f unselected-sized)
+    (λ e t. record { memory = install-bytes (fixedOf d) (keysOf d) m f (installable d g t) limit; session = unselected-sized })
+
+startup-typed : (m : List ℕ) (limit : ℕ) → AreBytes m → TypedRun (startup m limit)
+startup-typed m limit f =
+    startup-runs m (λ (r : ℕ → Run). TypedRun (r limit)) (λ n l k. refusal-typed n _ m _ f unselected-sized)
+    (λ t. record { memory = f; session = unselected-sized })
+
+command-typed : (m : List ℕ) (s : Session) (bytes random area : List ℕ) (limit : ℕ) → AreBytes m → Sized s → AreBytes bytes → AreBytes random
+    → TypedRun (command m s bytes random area limit)
+unfolding performed
+command-typed m s bytes random area limit f z a b =
+    command-runs m (λ (r : ℕ → Run). TypedRun (r limit)) s bytes random area (λ n l k. refusal-typed n s m area f z)
+    (λ c t u e.
+    let i = sound-of m c s bytes random f e z a b u in
+    let k = performed-bytes m c s bytes random e i limit f in
+    pick-holds TypedRun (ltb limit (length (outcomePlan c (respond c s bytes random) m))) _ _
+    (λ v. record { memory = k; session = unselected-sized })
+    (λ v. record { memory = k; session = session-sized c s bytes random i }))
+
+run-typed : (x : Call) (st : State) → Typed st → OfBytes x → TypedRun (run x st)
+unfolding run OfBytes
+run-typed (install d limit) st t f = installation-typed (st .memory) d limit (t .memory) f
+run-typed (start limit) st t f = startup-typed (st .memory) limit (t .memory)
+run-typed (send bytes random area limit) st t f = command-typed (st .memory) (st .session) bytes random area limit (t .memory) (t .session) (f .0) (f .1)
+
+-- every call keeps it
+pub typed-next : (x : Call) (st : State) → Typed st → OfBytes x → Typed (next x st)
+unfolding next
+typed-next x st t f =
+    let r = run-typed x st t f in
+    record { memory = r .memory; session = pick-holds Sized (eqb (run x st .answer) 0) _ _ (λ e. r .session) (λ e. t .session) }
+
+-- and every list of calls
+pub typed-after : (xs : List Call) (st : State) → Typed st → AllOfBytes xs → Typed (after xs st)
+unfolding after AllOfBytes
+typed-after [] st t f = t
+typed-after (x ∷ xs) st t f = typed-after xs (next x st) (typed-next x st t (f .0)) (f .1)
