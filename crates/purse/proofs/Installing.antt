@@ -1,0 +1,70 @@
+-- Installation, by its tests. Assumes nothing.
+use Prim.Native.Nat.{ℕ, _+_, _≤_, _<_}
+use mathlib.Core.Bool.{Bool, true, false, not, _&&_, false≢true}
+use mathlib.Core.List.{List, []}
+use mathlib.Core.Path.{_≡_, refl, sym, ap, _∙_}
+use native.Mathlib.Omega.{arith}
+use borrow.Author.Tests.{eq-eqb, ne-eqb, eqb-true}
+use lib.Dec.{eqb, leb, ltb}
+use lib.ListN.{length}
+use Rattle.octets.specs.Choice.{pick}
+use Rattle.octets.specs.Bytes.{byteAt}
+use Rattle.stores.specs.Stores.{Store, leaves, answers, reports}
+use Rattle.card.specs.declared.head.Fixed.{Fixed}
+use Rattle.card.specs.declared.head.KeySet.{KeySet}
+use Rattle.card.specs.Layout.{memorySize}
+use Rattle.card.specs.Changes.{installPlan}
+use Rattle.session.specs.Session.{unselected}
+use Rattle.purse_spec.specs.Calls.{refusal}
+use Rattle.purse_spec.specs.Installation.{dataOk, fixedOf, keysOf, installation}
+use Rattle.purse.specs.declared.calls.Called.{Called}
+use Rattle.purse.specs.Said.{said, storeless, finished}
+
+left : (a b : Bool) → (a && b) ≡ true → a ≡ true
+left true b e = refl
+left false b e = e
+
+right : (a b : Bool) → (a && b) ≡ true → b ≡ true
+right true b e = e
+right false b e = absurd (false≢true e)
+
+-- the third of seven tests
+third : (a b c d e f g : Bool) → (a && b && c && d && e && f && g) ≡ true → c ≡ true
+third a b c d e f g p = right (a && b) c (left _ d (left _ e (left _ f (left _ g p))))
+
+-- the AID lies within the data
+pub aid-within : (d : List ℕ) → dataOk d ≡ true → 1 + byteAt d 0 ≤ length d
+unfolding dataOk
+aid-within d e =
+    let n = byteAt d 0 in
+    let size = byteAt d (n + 1) in
+    let tries = byteAt d (n + 2) in
+    let h : length d ≡ n + 51 = eqb-true _ _ (third (leb 5 n) (leb n 16) (eqb (length d) (n + 51)) (leb 1 size) (leb size 50) (leb 3 tries) (leb tries 15) e) in
+    omega (arith, h)
+
+-- what installation says and leaves
+abbrev pub Installed : List ℕ → List ℕ → ℕ → Called → List ℕ → Type 0
+Installed m d limit r m′ = (r ≡ said (installation m d limit)) × (m′ ≡ installation m d limit .memory)
+
+module _ (m d : List ℕ) (limit : ℕ) (r : Called) where
+  pub install-sized : (length m ≡ memorySize → ⊥) → r ≡ storeless 1 unselected → Installed m d limit r m
+  unfolding installation refusal
+  install-sized h e = let t : eqb (length m) memorySize ≡ false = ne-eqb _ _ h in rw (t, e) (refl, refl)
+
+  pub install-data : length m ≡ memorySize → dataOk d ≡ false → r ≡ storeless 6 unselected → Installed m d limit r m
+  unfolding installation refusal
+  install-data h f e = let t : eqb (length m) memorySize ≡ true = eq-eqb _ _ h in rw (t, f, e) (refl, refl)
+
+  pub install-run : (m′ : List ℕ) (fixed : Fixed) (admin : KeySet) (n : ℕ) → length m ≡ memorySize → dataOk d ≡ true
+      → fixed ≡ fixedOf d → admin ≡ keysOf d → n ≡ length (installPlan fixed admin) → m′ ≡ leaves (installPlan fixed admin) limit m
+      → r ≡ finished n limit 0 unselected → Installed m d limit r m′
+  unfolding installation refusal finished answers reports
+  install-run m′ fixed admin n h f p q i j e =
+      let t : eqb (length m) memorySize ≡ true = eq-eqb _ _ h in
+      rw (t, f, ← p, ← q, ← i, e, j) (by-limit (ltb limit n), refl)
+    where
+      by-limit : (b : Bool)
+          → _≡_ {A = Called} (pick b (record { answer = 7; count = limit; length = 0; session = unselected }) (record { answer = 0; count = n; length = 0; session = unselected }))
+          (record { answer = pick b 7 0; count = pick b limit n; length = 0; session = unselected })
+      by-limit true = refl
+      by-limit false = refl

@@ -1,0 +1,4 @@
+pub mod Starting
+pub mod Installing
+pub mod Outcomes
+pub mod Requests

@@ -1,0 +1,22 @@
+// Start-up. It makes no store, so no limit cuts it.
+ghost use mathlib.Core.Path.{_≡_};
+ghost use Rattle.purse_spec.specs.Startup.{startup};
+ghost use Rattle.purse.specs.Said.{said};
+use crate::calls::Called;
+use crate::calls::storeless;
+use card::layout;
+use session::unselected;
+
+pub fn start_up(memory: &mut [u8], limit: usize) -> Called
+    ensures { λ r. ⌜ (r ≡ said (startup (now (memory .entry)) limit))
+        × (now (memory .exit) ≡ startup (now (memory .entry)) limit .memory) ⌝ }
+{
+    if memory.len() != layout::MEMORY_SIZE {
+        return storeless(1, unselected());
+    }
+    let reading = card::read(memory);
+    if !reading.ok {
+        return storeless(2, unselected());
+    }
+    storeless(0, unselected())
+}
