@@ -3,7 +3,18 @@
 
 mod tables;
 
+use std::cell::Cell;
+
 use tables::{E, IP, IP_INVERSE, P, PC1, PC2, S, SHIFTS};
+
+thread_local! {
+    static BLOCKS: Cell<u64> = const { Cell::new(0) };
+}
+
+/// How many DES blocks this thread has enciphered or deciphered.
+pub fn blocks() -> u64 {
+    BLOCKS.get()
+}
 
 /// DES under one key: the round keys, 48 bits each.
 pub struct Des {
@@ -76,6 +87,7 @@ fn permute(word: u64, width: u32, table: &[u8]) -> u64 {
 
 /// IP, the sixteen rounds, the two halves exchanged, and the inverse of IP.
 fn cipher<'a>(block: u64, round_keys: impl Iterator<Item = &'a u64>) -> u64 {
+    BLOCKS.set(BLOCKS.get() + 1);
     let permuted = permute(block, 64, IP.as_flattened());
     let mut left = (permuted >> 32) as u32;
     let mut right = permuted as u32;

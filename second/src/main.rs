@@ -15,6 +15,7 @@ use second::bench::run::Limited;
 use second::bench::{malformed, text, transcript};
 use second::bench::{random as bench_random, run as bench_run, stored as bench_stored};
 use second::cipher_tests::{answers, random, stored};
+use second::des;
 
 const USAGE: &str = "\
 usage: second cipher-known
@@ -33,6 +34,8 @@ usage: second cipher-known
            print a bench file with a malformed record, or one at the edge of that
        second bench-coverage BENCHFILE
            print how often a bench file reaches each rule; missing ones give status 1
+       second bench-blocks BENCHFILE
+           print how many DES blocks the second program computes to run a bench file
        second bench-stored DIR
            write the stored bench files into a folder
        second bench-example
@@ -106,6 +109,7 @@ fn run(words: &[&str], output: &mut impl Write) -> Result<bool, Failure> {
             output.write_all(&malformed::file(number("SEED", seed)?))?;
         }
         ["bench-coverage", file] => good = cover(file, output)?,
+        ["bench-blocks", file] => count_blocks(file, output)?,
         ["bench-stored", folder] => bench_stored::write(Path::new(folder))?,
         ["bench-example"] => output.write_all(&bench_stored::purchase::file())?,
         ["bench-text"] => assemble(output)?,
@@ -180,6 +184,13 @@ fn cover(file: &str, output: &mut impl Write) -> Result<bool, Failure> {
     Ok(missing == 0)
 }
 
+fn count_blocks(file: &str, output: &mut impl Write) -> Result<(), Failure> {
+    let bytes = read(file)?;
+    let before = des::blocks();
+    run_bench(file, &bytes, &mut io::sink())?;
+    Ok(writeln!(output, "{}", des::blocks() - before)?)
+}
+
 fn assemble(output: &mut impl Write) -> Result<(), Failure> {
     let input = standard_input()?;
     let input = String::from_utf8_lossy(&input);
@@ -214,7 +225,7 @@ fn wrong_arguments(words: &[&str]) -> String {
         }
         ["bench-random", ..] => "bench-random takes two numbers and perhaps --cuts".to_string(),
         ["bench-malformed", ..] => "bench-malformed takes a number".to_string(),
-        ["bench-coverage", ..] => "bench-coverage takes a bench file".to_string(),
+        [name @ ("bench-coverage" | "bench-blocks"), ..] => format!("{name} takes a bench file"),
         ["bench-stored", ..] => "bench-stored takes a folder".to_string(),
         [name, ..] => format!("no such subcommand: {name}"),
     }

@@ -183,6 +183,20 @@ fn coverage_status() {
     assert!(message.contains("no such file: "), "{message}");
 }
 
+/// All of the purse's DES is triple DES.
+#[test]
+fn blocks_of_a_bench_file() {
+    let folder = folder("blocks");
+    let example = run(&["bench-example"], "").stdout;
+    let file = write(&folder, "purchase.bench", &example);
+    let output = run(&["bench-blocks", &file], "");
+    let blocks: u64 = String::from_utf8_lossy(&output.stdout)
+        .trim()
+        .parse()
+        .unwrap();
+    assert!(blocks > 0 && blocks % 3 == 0, "{blocks}");
+}
+
 #[test]
 fn text_and_random_files() {
     let output = run(&["bench-text"], "start FFFF\n");

@@ -1,6 +1,6 @@
 //! DES and triple DES of single blocks against published answers, and laws of the cipher.
 
-use second::des::{Des, TripleDes};
+use second::des::{blocks, Des, TripleDes};
 use second::known::{self, Known};
 use second::random::Random;
 
@@ -126,4 +126,14 @@ fn weak_keys() {
         let block = 0x0123456789ABCDEF;
         assert_eq!(des.encipher(des.encipher(block)), block);
     }
+}
+
+/// A triple-DES block is three DES blocks.
+#[test]
+fn blocks_are_counted() {
+    let before = blocks();
+    let cipher = TripleDes::new(&[0x5A; 16]);
+    assert_eq!(blocks() - before, 0);
+    cipher.decipher(cipher.encipher(0));
+    assert_eq!(blocks() - before, 6);
 }
