@@ -49,7 +49,7 @@ data-judged personalized locked level good undercut = search rule depth 24
 
 -- ---- what 9000 tells
 
-neither : (a b : Bool) → (a || b) ≡ false → (a ≡ false) × (b ≡ false)
+pub neither : (a b : Bool) → (a || b) ≡ false → (a ≡ false) × (b ≡ false)
 neither true b e = absurd (false≢true (sym e))
 neither false b e = (refl, e)
 

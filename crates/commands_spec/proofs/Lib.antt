@@ -1,6 +1,7 @@
 pub mod Sums
 pub mod Steps
 pub mod Judgements
+pub mod Allowed
 pub mod Ways
 pub mod Words
 pub mod Refusals

@@ -11,14 +11,16 @@ use Rattle.card.specs.declared.head.KeySet.{KeySet}
 use Rattle.card.specs.declared.head.Head.{Head}
 use Rattle.session.specs.declared.Set.the-variants.{Credit}
 use Rattle.session.specs.declared.Level.the-variants.{Rmac}
+use Rattle.session.specs.declared.Pending.{Pending}
 use Rattle.session.specs.declared.Pending.the-variants.{Nothing}
 use Rattle.session.specs.declared.Session.{Session}
 use Rattle.session.specs.Session.{noOffer}
 use Rattle.session.specs.Access.{access, accessOf, hasRmac}
+use Rattle.session.specs.Packing.{amountOf}
 use Rattle.commands_spec.specs.Status.{operational}
 use Rattle.commands_spec.specs.Transaction.{notAboveZero, newBalance, keepsLimits, logAmount}
 use Rattle.commands_spec.specs.InitializeTransaction.{initializeStatus, initializeJudged, lacks, needed, noted}
-use Rattle.commands_spec.specs.CompleteTransaction.{booked, logRecord}
+use Rattle.commands_spec.specs.CompleteTransaction.{isNoted, isDebit, completeStatus, completeJudged, booked, logRecord}
 
 unfoldable pub keys : KeySet
 keys = record { defined = true; enc = zeros 16; mac = zeros 16; dek = zeros 16 }
@@ -46,25 +48,27 @@ card balance maxbalance maxdebit number maxnumber =
       state = record { number = number; balance = balance; tries = 3 };
     }
 
--- a channel of key set 2 with R-MAC
-unfoldable pub session : Session
-session =
+-- a channel of key set 2 with R-MAC, and what is pending
+unfoldable pub session : Pending → Session
+session pending =
     record {
       selected = true;
       verified = false;
       channel = record { level = Rmac Credit; enc = zeros 16; mac = zeros 16; cmac = zeros 8; rmac = zeros 8 };
-      pending = Nothing;
+      pending = pending;
       offer = noOffer;
     }
 
--- INITIALIZE TRANSACTION's status word; where it is 9000, the balance and the amount of the record that COMPLETE TRANSACTION makes
+-- INITIALIZE TRANSACTION's status word; where it is 9000, COMPLETE TRANSACTION's, and the balance and the amount of the record that
+-- it makes
 unfoldable pub outcome : Head → ℕ → ℕ → List ℕ
 outcome h p1 amount =
-    let w = initializeJudged h session p1 0x03D2 amount in
+    let w = initializeJudged h (session Nothing) p1 0x03D2 amount in
+    let v = completeJudged h (session (noted p1 amount)) in
     let debit = eqb p1 0x00 in
     let next = booked debit amount (h .state) in
     let r = logRecord debit amount next 0x03D2 (zeros 16) in
-    pick (eqb w 0x9000) (w ∷ wordAt r 6 ∷ wordAt r 4 ∷ []) (w ∷ [])
+    pick (eqb w 0x9000) (w ∷ v ∷ wordAt r 6 ∷ wordAt r 4 ∷ []) (w ∷ [])
 
 pub record Row : Type 0 where
   pub got : List ℕ
@@ -76,20 +80,20 @@ all (r ∷ rows) = same (r .got) (r .due) && all rows
 
 unfoldable pub table : List Row
 table =
-    record { got = outcome (card 30000 32767 32767 0 100) 0x01 2767; due = 0x9000 ∷ 32767 ∷ 2767 ∷ [] }
+    record { got = outcome (card 30000 32767 32767 0 100) 0x01 2767; due = 0x9000 ∷ 0x9000 ∷ 32767 ∷ 2767 ∷ [] }
     ∷ record { got = outcome (card 30000 32767 32767 0 100) 0x01 2768; due = 0x9414 ∷ [] }
     ∷ record { got = outcome (card 30000 32767 32767 0 100) 0x01 0x0000; due = 0x9412 ∷ [] }
     ∷ record { got = outcome (card 30000 32767 32767 0 100) 0x01 0x8000; due = 0x9412 ∷ [] }
     ∷ record { got = outcome (card 30000 32767 32767 0 100) 0x00 0xFFFF; due = 0x9412 ∷ [] }
-    ∷ record { got = outcome (card 350 32767 500 0 100) 0x00 350; due = 0x9000 ∷ 0 ∷ 0xFEA2 ∷ [] }
+    ∷ record { got = outcome (card 350 32767 500 0 100) 0x00 350; due = 0x9000 ∷ 0x9000 ∷ 0 ∷ 0xFEA2 ∷ [] }
     ∷ record { got = outcome (card 350 32767 500 0 100) 0x00 351; due = 0x9413 ∷ [] }
     ∷ record { got = outcome (card 1000 32767 500 0 100) 0x00 501; due = 0x9413 ∷ [] }
-    ∷ record { got = outcome (card 1000 32767 500 0 100) 0x00 500; due = 0x9000 ∷ 500 ∷ 0xFE0C ∷ [] }
-    ∷ record { got = outcome (card 350 1000 500 9 10) 0x00 1; due = 0x9000 ∷ 349 ∷ 0xFFFF ∷ [] }
+    ∷ record { got = outcome (card 1000 32767 500 0 100) 0x00 500; due = 0x9000 ∷ 0x9000 ∷ 500 ∷ 0xFE0C ∷ [] }
+    ∷ record { got = outcome (card 350 1000 500 9 10) 0x00 1; due = 0x9000 ∷ 0x9000 ∷ 349 ∷ 0xFFFF ∷ [] }
     ∷ record { got = outcome (card 350 1000 500 10 10) 0x00 1; due = 0x9410 ∷ [] }
     ∷ record { got = operational (card 350 1000 500 9 10); due = 0x00 ∷ 0x01 ∷ 0x03 ∷ 0xD2 ∷ 0x01 ∷ 0x5E ∷ 0x01 ∷ 0x5E ∷ 0x02 ∷ 0x8A ∷ [] }
     ∷ []
 
 pub sums : T (all table)
-unfolding all same table outcome card keys session operational notAboveZero newBalance logAmount initializeStatus initializeJudged lacks needed booked logRecord access accessOf hasRmac
+unfolding all same table outcome card keys session operational notAboveZero newBalance logAmount initializeStatus initializeJudged lacks needed noted keepsLimits isNoted isDebit amountOf completeStatus completeJudged booked logRecord access accessOf hasRmac
 sums = tt
