@@ -1,0 +1,3 @@
+pub mod Bounds
+pub mod Outcomes
+pub mod Answers

@@ -1,0 +1,87 @@
+-- The ends of the host's functions, over plain variables: what the code has there is what the definition says. Assumes nothing.
+use mathlib.Core.Bool.{true, false, false≢true}
+use mathlib.Core.List.{List, []}
+use mathlib.Core.Option.{Option, none, some}
+use mathlib.Core.Path.{_≡_, refl, sym, ap, _∙_}
+use Prim.Native.Nat.{ℕ, _≤_, _<_}
+use borrow.Author.Tests.{eq-eqb, ne-eqb, le-ltb}
+use lib.ListN.{length}
+use Rattle.octets.specs.Bytes.{AreBytes, zeros, paste}
+use Rattle.octets.proofs.Pasting.{paste-whole}
+use Rattle.card.specs.Layout.{memorySize}
+use Rattle.session.specs.declared.Session.{Session}
+use Rattle.session.specs.declared.packing.Unpacked.{Unpacked}
+use Rattle.session.specs.Packing.{packed, unpacked, shown, unpacking}
+use Rattle.session.proofs.Reading.{unpacking-ok, reads-array}
+use Rattle.purse_spec.specs.Calls.{Run, refusal}
+use Rattle.purse_spec.specs.Installation.{installation}
+use Rattle.purse_spec.specs.Startup.{startup}
+use Rattle.purse_spec.specs.Commands.{leastArea, command}
+use Rattle.purse_spec.proofs.Runs.{installation-runs, startup-runs}
+use Rattle.purse.specs.declared.calls.Called.{Called}
+use Rattle.purse.specs.Said.{said}
+use Rattle.host.specs.Host.{sessionSize, handed, number, areaAfter, outcome, lengthTested, inSession, commandCall}
+use Rattle.host.proofs.Bounds.{Small}
+
+-- ---- the session area
+
+module _ (answer : ℕ) (s : Session) (area : List ℕ) (h : length area ≡ sessionSize) where
+  pub area-packed : (bytes area′ : List ℕ) → answer ≡ 0 → length bytes ≡ sessionSize → bytes ≡ packed s → area′ ≡ paste area 0 bytes
+      → area′ ≡ areaAfter answer s area
+  unfolding areaAfter
+  area-packed bytes area′ e n b p = rw (eq-eqb answer 0 e) (p ∙ paste-whole area bytes (n ∙ sym h) ∙ b)
+
+  pub area-cleared : (area′ : List ℕ) → (answer ≡ 0 → ⊥) → answer ≡ 7 → area′ ≡ zeros (length area) → area′ ≡ areaAfter answer s area
+  unfolding areaAfter
+  area-cleared area′ z e p = rw (ne-eqb answer 0 z, eq-eqb answer 7 e) (p ∙ ap zeros h)
+
+-- ---- what is handed back
+
+-- what the number asks of a call that says what a small run says
+pub said-small : (c : Called) (r : Run) → c ≡ said r → Small r → (c .length < 256) × (c .count < 65536)
+said-small c r e s = rw e (s .size, s .count)
+
+-- installation and start-up, which have no response
+pub tested : (m area : List ℕ) (r : Run) (c : Called) (n : ℕ) (m′ area′ : List ℕ) → length m ≡ memorySize → length area ≡ sessionSize → r .response ≡ []
+    → c ≡ said r → m′ ≡ r .memory → n ≡ number (c .answer) (c .length) (c .count) → area′ ≡ areaAfter (c .answer) (c .session) area
+    → handed n m′ area′ [] ≡ lengthTested m area r
+unfolding lengthTested outcome
+tested m area r c n m′ area′ h k q e p w a = rw (eq-eqb (length m) memorySize h, eq-eqb (length area) sessionSize k, a, w, p, e, q)
+
+pub no-response-installation : (m d : List ℕ) (limit : ℕ) → installation m d limit .response ≡ []
+unfolding refusal
+no-response-installation m d limit = installation-runs m (λ (r : ℕ → Run). r limit .response ≡ []) d (λ n k l. refl) (λ e t. refl)
+
+pub no-response-startup : (m : List ℕ) (limit : ℕ) → startup m limit .response ≡ []
+unfolding refusal
+no-response-startup m limit = startup-runs m (λ (r : ℕ → Run). r limit .response ≡ []) (λ n k l. refl) (λ t. refl)
+
+-- ---- a command
+
+shown-none : (o : Option Session) → shown o .ok ≡ false → o ≡ none
+shown-none none e = refl
+shown-none (some s) e = absurd (false≢true (sym e))
+
+module _ (m area bytes random response : List ℕ) (limit : ℕ) (u : Unpacked) (e : u ≡ unpacking area) where
+  -- an area that reads as a session has its size
+  pub session-long : AreBytes area → u .ok ≡ true → length area ≡ sessionSize
+  session-long f k = reads-array area _ (unpacking-ok area (ap (λ (x : Unpacked). x .ok) (sym e) ∙ k)) f .long
+
+  module _ (a : length m ≡ memorySize) (b : leastArea ≤ length response) (d : length random ≡ 8) where
+    -- its session area reads as none
+    pub command-none : u .ok ≡ false → handed (number 8 0 0) m area response ≡ commandCall m area bytes random response limit
+    unfolding commandCall inSession unpacking
+    command-none k =
+        let o : unpacked area ≡ none = shown-none (unpacked area) (ap (λ (x : Unpacked). x .ok) (sym e) ∙ k) in
+        rw (eq-eqb (length m) memorySize a, le-ltb (length response) leastArea b, eq-eqb (length random) 8 d, o)
+
+    -- or as one
+    pub command-run : (c : Called) (n : ℕ) (m′ area′ response′ : List ℕ) → u .ok ≡ true
+        → (c ≡ said (command m (u .session) bytes random response limit)) × (m′ ≡ command m (u .session) bytes random response limit .memory)
+        × (response′ ≡ command m (u .session) bytes random response limit .response)
+        → (n ≡ number (c .answer) (c .length) (c .count)) × (area′ ≡ areaAfter (c .answer) (c .session) area)
+        → handed n m′ area′ response′ ≡ commandCall m area bytes random response limit
+    unfolding commandCall inSession outcome
+    command-run c n m′ area′ response′ k r w =
+        let o : unpacked area ≡ some (u .session) = rw e (unpacking-ok area (ap (λ (x : Unpacked). x .ok) (sym e) ∙ k)) in
+        rw (eq-eqb (length m) memorySize a, le-ltb (length response) leastArea b, eq-eqb (length random) 8 d, o, w .1, w .0, r .2, r .1, r .0)

@@ -1,0 +1,57 @@
+use native.Mathlib.Omega.{arith}
+use Rattle.octets.proofs.Rules.{rules}
+use Rattle.host.specs.Host.{number, lengthTested, installCall}
+use Rattle.host.proofs.Bounds.{installation-small}
+use Rattle.host.proofs.Outcomes.{said-small, tested, no-response-installation}
+use borrow.Author.Needs.{needs}
+use Rattle.host.proofs.purse_install.Statement.{statement}
+use Rattle.host.proofs.purse_install.Tie as tie
+
+returns : tie.Need-returns
+unfolding installCall lengthTested number
+returns c = search rules depth 24
+
+returns-2 : tie.Need-returns-2
+unfolding installCall lengthTested number
+returns-2 c = search rules depth 24
+
+install-requires : tie.Need-install-requires
+install-requires c κs = search needs
+
+hand-back-requires : tie.Need-hand-back-requires
+hand-back-requires c κs =
+    let r = c .before .before .before in
+    let i = r .before .before in
+    let b = i .before .before in
+    let m = b .before .before in
+    let a = m .before .args in
+    let s = said-small _ _ (r .install .ensures .0)
+    (installation-small (a .memory .now) (a .bytes .now) _ (λ j. omega (arith, m .slice-known .given j)) (λ j. omega (arith, b .shared-slice-known .given j))) in
+    (i .if2 .left, s .0, s .1)
+
+same-length : tie.Need-same-length
+same-length c = search needs
+
+same-length-2 : tie.Need-same-length-2
+same-length-2 c = search needs
+
+returns-3 : tie.Need-returns-3
+unfolding installCall
+returns-3 c =
+    let h = c .before .before in
+    let r = h .before .before .before .before in
+    let i = r .before .before in
+    tested _ _ _ _ _ _ _ (i .before .if1 .left) (i .if2 .left) (no-response-installation _ _ _) (r .install .ensures .0) (r .install .ensures .1) (h .hand-back .ensures .0)
+    (h .hand-back .ensures .1)
+
+pub purse-install-spec : {M : Type 1} → statement M
+purse-install-spec =
+    tie.close
+    (tie.spec
+    returns
+    returns-2
+    install-requires
+    hand-back-requires
+    same-length
+    same-length-2
+    returns-3)
