@@ -1,0 +1,73 @@
+use native.Mathlib.Omega.{arith}
+use Rattle.bench_file.proofs.Turning.{turn-within}
+use Rattle.bench.proofs.Hands.{used-within}
+use borrow.Author.Needs.{needs}
+use Rattle.bench.proofs.stream.turn.Statement.{statement}
+use Rattle.bench.proofs.stream.turn.Tie as tie
+
+sub-turn : tie.Need-sub-turn
+sub-turn c = search needs
+
+part-turn-start : tie.Need-part-turn-start
+part-turn-start c = search needs
+
+part-turn-end : tie.Need-part-turn-end
+part-turn-end c = search needs
+
+turn-requires : tie.Need-turn-requires
+turn-requires c κs = search needs
+
+sub-write : tie.Need-sub-write
+sub-write c = search needs
+
+part-write-start : tie.Need-part-write-start
+part-write-start c = search needs
+
+part-write-end : tie.Need-part-write-end
+part-write-end c = turn-within _ _ _ _ _ _ _ (c .before .before .before .before .before .turn .ensures) .1
+
+write-requires : tie.Need-write-requires
+write-requires c κs = search needs
+
+add-t15 : tie.Need-add-t15
+add-t15 c =
+    let t = c .before .before .before .before .before .before .before .before in
+    let s = t .before .before .before .before .before .before .before in
+    omega (arith, s .good .1 .1 .0 .0, used-within (s .args .input .now) (s .args .used) (t .turn .result .used) (s .pre) (turn-within _ _ _ _ _ _ _ (t .turn .ensures) .0))
+
+again-requires : tie.Need-again-requires
+again-requires c κs = search needs
+
+goes-on-requires : tie.Need-goes-on-requires
+goes-on-requires c κs = search needs
+
+same-length : tie.Need-same-length
+same-length c = search needs
+
+same-length-2 : tie.Need-same-length-2
+same-length-2 c = search needs
+
+returns : tie.Need-returns
+returns c =
+    let t = c .before .before .before .before .before .before .before .before .before .before in
+    let s = t .before .before .before .before .before .before .before in
+    (used-within (s .args .input .now) (s .args .used) (t .turn .result .used) (s .pre) (turn-within _ _ _ _ _ _ _ (t .turn .ensures) .0), λ e. let p = c .before .again .ensures e in omega arith)
+
+pub turn-spec : {M : Type 1} → statement M
+turn-spec =
+    tie.close
+    (tie.spec
+    sub-turn
+    part-turn-start
+    part-turn-end
+    turn-requires
+    sub-write
+    part-write-start
+    part-write-end
+    write-requires
+    add-t15
+    again-requires
+    goes-on-requires
+    same-length
+    same-length-2
+    returns)

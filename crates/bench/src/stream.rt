@@ -1,0 +1,179 @@
+// A bench file as it comes from a descriptor: in pieces of any size, each run as far as its records are whole, before the next is awaited.
+ghost use mathlib.Core.Bool.{true};
+ghost use mathlib.Core.Path.{_≡_};
+ghost use Prim.Native.Nat.{_≤_, _<_};
+ghost use lib.ListN.{length};
+use bench_file::Next;
+use session::Session;
+use session::unselected;
+
+// How many of the bytes in hand are used, whether more can be used at once, whether the file goes on, and the session.
+struct Hand {
+    used: usize,
+    again: bool,
+    on: bool,
+    session: Session,
+}
+
+// How many bytes are in hand, whether the file goes on, and the session.
+struct Kept {
+    have: usize,
+    on: bool,
+    session: Session,
+}
+
+// Whether more of the bytes in hand can be used at once: the lines are written, and had no room before.
+fn again(next: Next, done: bool, used: usize) -> bool
+    ensures { λ r. ⌜ (r ≡ true → 0 < used) ⌝ }
+{
+    if !done {
+        return false;
+    }
+    if used == 0 {
+        return false;
+    }
+    match next {
+        Next::Full => true,
+        Next::More => false,
+        Next::Over => false,
+    }
+}
+
+// Whether the file goes on: the lines are written, and X is not among them.
+fn goes_on(next: Next, done: bool) -> bool {
+    if !done {
+        return false;
+    }
+    match next {
+        Next::Full => true,
+        Next::More => true,
+        Next::Over => false,
+    }
+}
+
+// Writes to standard output, and says where that fails.
+fn write(bytes: &[u8]) -> bool {
+    let done = io::write_all(1, bytes);
+    if !done {
+        os::fail(b"standard output");
+    }
+    done
+}
+
+// One turn, whose lines are written.
+fn turn(memory: &mut [u8], session: Session, input: &[u8], used: usize, output: &mut [u8]) -> Hand
+    requires { ⌜ used ≤ length (now input) ⌝ }
+    ensures { λ r. ⌜ (r .used ≤ length (now (input .entry))) × (r .again ≡ true → used < r .used) ⌝ }
+{
+    let turned = bench_file::turn(memory, session, &input[used..], output);
+    let n = turned.written;
+    let next = turned.next;
+    let done = write(&output[0..n]);
+    let more = turned.used;
+    let after = turned.session;
+    Hand {
+        used: used + more,
+        again: again(next, done, more),
+        on: goes_on(next, done),
+        session: after,
+    }
+}
+
+// All whole records in hand.
+fn run_in_hand(memory: &mut [u8], session: Session, input: &[u8], output: &mut [u8]) -> Hand
+    ensures { λ r. ⌜ r .used ≤ length (now (input .entry)) ⌝ }
+{
+    let mut hand = Hand {
+        used: 0,
+        again: true,
+        on: true,
+        session: session,
+    };
+    while hand.again {
+        hand = turn(memory, hand.session, input, hand.used, output);
+    }
+    hand
+}
+
+// The end of the file.
+fn finish(rest: &[u8], session: Session) -> Kept
+    ensures { λ r. ⌜ r .have ≡ 0 ⌝ }
+{
+    let line = bench_file::last_line(rest);
+    let bytes = line.bytes;
+    let n = octets::size(line);
+    write(&bytes[..n]);
+    Kept {
+        have: 0,
+        on: false,
+        session: session,
+    }
+}
+
+// Runs the first bytes of the input area, and keeps what is left of them.
+fn run_piece(
+    memory: &mut [u8],
+    session: Session,
+    input: &mut [u8],
+    have: usize,
+    output: &mut [u8],
+) -> Kept
+    requires { ⌜ have ≤ length (now input) ⌝ }
+    ensures { λ r. ⌜ r .have ≤ length (now (input .exit)) ⌝ }
+{
+    let hand = run_in_hand(memory, session, &input[0..have], output);
+    let left = bench_file::keep(input, hand.used, have);
+    let after = hand.session;
+    Kept {
+        have: left,
+        on: hand.on,
+        session: after,
+    }
+}
+
+// Reads once, behind the bytes in hand.
+fn read_piece(
+    fd: i32,
+    name: &[u8],
+    memory: &mut [u8],
+    input: &mut [u8],
+    output: &mut [u8],
+    kept: Kept,
+) -> Kept
+    requires { ⌜ kept .have ≤ length (now input) ⌝ }
+    ensures { λ r. ⌜ r .have ≤ length (now (input .exit)) ⌝ }
+{
+    let have = kept.have;
+    let session = kept.session;
+    let got = libc::read(fd, &mut input[have..]);
+    if got < 0 {
+        os::fail(name);
+        return Kept {
+            have: 0,
+            on: false,
+            session: session,
+        };
+    }
+    let n = io::count(got, &input[have..]);
+    if n == 0 {
+        return finish(&input[0..have], session);
+    }
+    run_piece(memory, session, input, have + n, output)
+}
+
+// One bench file, with memory and session of its own. A proved loop has to end: it counts its turns down from a number that no run uses up.
+pub fn run(fd: i32, name: &[u8]) {
+    let mut memory = [0; 4096];
+    let mut input = io::large_buffer();
+    let mut output = io::large_buffer();
+    let mut kept = Kept {
+        have: 0,
+        on: true,
+        session: unselected(),
+    };
+    let mut turns = u64::MAX;
+    while 0 < turns && kept.on {
+        kept = read_piece(fd, name, &mut memory, &mut input, &mut output, kept);
+        turns -= 1;
+    }
+}

@@ -1,0 +1,100 @@
+-- Every answer is one of document 01's list; and the line of a call is made of what the call said. Assumes nothing.
+use Prim.Native.Nat.{ℕ, _-_, _≤_, min}
+use mathlib.Core.Bool.{Bool, true, false}
+use mathlib.Core.List.{List}
+use mathlib.Core.Path.{_≡_, refl, _∙_}
+use native.Mathlib.Omega.{arith}
+use borrow.Author.Tests.{eq-eqb}
+use native.Mathlib.Nat.{sub-zero}
+use lib.Dec.{eqb}
+use lib.ListN.{length, take}
+use Rattle.octets.specs.declared.buffer.Buffer.{Buffer}
+use Rattle.octets.specs.Choice.{pick}
+use Rattle.octets.specs.Buffers.{holding}
+use Rattle.session.specs.declared.Session.{Session}
+use Rattle.purse.specs.declared.calls.Called.{Called}
+use Rattle.purse.specs.Said.{said}
+use Rattle.purse_spec.specs.Calls.{Run}
+use Rattle.purse_spec.specs.Installation.{installation}
+use Rattle.purse_spec.specs.Startup.{startup}
+use Rattle.purse_spec.specs.Commands.{command}
+use Rattle.purse_spec.specs.History.{Call, install, start, send, State, run}
+use Rattle.purse_spec.proofs.Answers.{Reason, one, two, three, four, six, seven, done, answered, areaFor, answers-keep}
+use Rattle.bench_file.specs.declared.record.Printed.{Printed}
+use Rattle.bench_file.proofs.Lent.{take-least}
+use Rattle.bench_file.specs.Lines.{ran, moved, line, answerLine, responseLine, sessionAfter}
+use Rattle.bench_file.specs.Printed.{printed, Runs, answerPrinted, responsePrinted}
+
+-- ---- answers
+
+most : {x : Call} {st : State} (n : ℕ) → Reason x st n → n ≤ 7
+most n (one w) = omega arith
+most n (three v w) = omega arith
+most n (four u v w) = omega arith
+most n (two t u v w) = omega arith
+most n (six s t u v w) = omega arith
+most n (seven a) = omega arith
+most n (done a) = omega arith
+
+-- the answers that the bench can get are 0 to 7
+pub listed : (x : Call) (m : List ℕ) (s : Session) → run x (record { memory = m; session = s; cut = false }) .answer ≤ 7
+listed x m s = most _ (answered x (record { memory = m; session = s; cut = false }))
+
+-- a command keeps the length of its response area
+pub area-kept : (m : List ℕ) (s : Session) (bytes random area : List ℕ) (limit : ℕ) → length (command m s bytes random area limit .response) ≡ length area
+unfolding run areaFor
+area-kept m s bytes random area limit = answers-keep (send bytes random area limit) (record { memory = m; session = s; cut = false }) .response
+
+-- ---- lines
+
+pub response-printed : (r : Called) (s s′ : Session) (area : List ℕ) (n : ℕ) (l : Buffer) → r .answer ≡ 0 → n ≡ min (r .length) (length area)
+    → l ≡ holding (responseLine (take (n - 0) area)) → s′ ≡ sessionAfter s (r .answer) (r .session) → record { line = l; session = s′ } ≡ responsePrinted r s area
+unfolding responsePrinted
+response-printed r s s′ area n l z e f g = rw (eq-eqb (r .answer) 0 z, f, g, sub-zero, e, take-least (r .length) area)
+
+module _ (m m′ : List ℕ) (s : Session) (r : Called) where
+  -- what an installation said, and the line of its record
+  pub install-said : (d : List ℕ) (limit : ℕ) → (r ≡ said (installation m d limit)) × (m′ ≡ installation m d limit .memory) → r .answer ≤ 8
+  unfolding run
+  install-said d limit e = rw (e .0) (omega (arith, listed (install d limit) m s))
+
+  pub install-runs : (p : Printed) (d x : List ℕ) (limit n : ℕ) → n ≡ limit → x ≡ d → (r ≡ said (installation m x n)) × (m′ ≡ installation m x n .memory)
+      → p ≡ answerPrinted 0x49 r s → Runs (install d limit) m s p m′
+  unfolding printed line ran run moved
+  install-runs p d x limit n h g e f = rw (← h, ← g) (rw (f, e .0), e .1)
+
+  -- the same of a start-up
+  pub start-said : (limit : ℕ) → (r ≡ said (startup m limit)) × (m′ ≡ startup m limit .memory) → r .answer ≤ 8
+  unfolding run
+  start-said limit e = rw (e .0) (omega (arith, listed (start limit) m s))
+
+  pub start-runs : (p : Printed) (limit n : ℕ) → n ≡ limit → (r ≡ said (startup m n)) × (m′ ≡ startup m n .memory) → p ≡ answerPrinted 0x53 r s → Runs (start limit) m s p m′
+  unfolding printed line ran run moved
+  start-runs p limit n h e f = rw (← h) (rw (f, e .0), e .1)
+
+  -- the same of a command, with its response
+  abbrev pub Sent : (bytes random area area′ : List ℕ) (limit : ℕ) → Type 0
+  Sent bytes random area area′ limit =
+      let x = command m s bytes random area limit in
+      (r ≡ said x) × (m′ ≡ x .memory) × (area′ ≡ x .response)
+
+  pub command-said : (bytes random area area′ : List ℕ) (limit : ℕ) → Sent bytes random area area′ limit → r .answer ≤ 8
+  unfolding run
+  command-said bytes random area area′ limit e = rw (e .0) (omega (arith, listed (send bytes random area limit) m s))
+
+  pub command-runs : (p : Printed) (bytes x random area area′ : List ℕ) (limit n : ℕ) → n ≡ limit → x ≡ bytes → Sent x random area area′ n
+      → p ≡ responsePrinted r s area′ → Runs (send bytes random area limit) m s p m′
+  unfolding printed line ran run moved responsePrinted
+  command-runs p bytes x random area area′ limit n h g e f =
+      let y = command m s x random area n in
+      rw (← h, ← g) (f ∙ rw (e .2, e .0) (by y (eqb (y .answer) 0)), e .1)
+    where
+      by : (y : Run) (b : Bool)
+          → _≡_ {A = Printed} (pick b (record { line = holding (responseLine (take (y .length) (y .response))); session = sessionAfter s (y .answer) (y .session) })
+          (record { line = holding (answerLine 0x43 (y .answer)); session = sessionAfter s (y .answer) (y .session) }))
+          (record {
+            line = holding (pick b (responseLine (take (y .length) (y .response))) (answerLine 0x43 (y .answer)));
+            session = sessionAfter s (y .answer) (y .session);
+          })
+      by y true = refl
+      by y false = refl

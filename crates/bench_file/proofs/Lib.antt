@@ -1,0 +1,13 @@
+pub mod Fronts
+pub mod Headers
+pub mod Lent
+pub mod Files
+pub mod Digits
+pub mod Answers
+pub mod Ends
+pub mod Stretching
+pub mod Turning
+pub mod Keeping
+pub mod Cuts
+pub mod Rounds
+pub mod Balance

@@ -1,0 +1,69 @@
+use Rattle.bench_file.proofs.Lent.{lent-end}
+use Rattle.bench_file.proofs.Answers.{command-said, command-runs}
+use borrow.Author.Needs.{needs}
+use Rattle.bench_file.proofs.record.command_record.Statement.{statement}
+use Rattle.bench_file.proofs.record.command_record.Tie as tie
+
+word-at-requires : tie.Need-word-at-requires
+word-at-requires c κs = search needs
+
+cast-limit : tie.Need-cast-limit
+cast-limit c = search needs
+
+sub-command : tie.Need-sub-command
+sub-command c = search needs
+
+part-command-start : tie.Need-part-command-start
+part-command-start c = search needs
+
+part-command-end : tie.Need-part-command-end
+part-command-end c = search needs
+
+sub-command-2 : tie.Need-sub-command-2
+sub-command-2 c = search needs
+
+part-command-start-2 : tie.Need-part-command-start-2
+part-command-start-2 c = search needs
+
+part-command-end-2 : tie.Need-part-command-end-2
+part-command-end-2 c = search needs
+
+slice-aggregate-command : tie.Need-slice-aggregate-command
+slice-aggregate-command c = search needs
+
+command-requires : tie.Need-command-requires
+command-requires c κs = search needs
+
+slice-aggregate-responded : tie.Need-slice-aggregate-responded
+slice-aggregate-responded c = search needs
+
+responded-requires : tie.Need-responded-requires
+responded-requires c κs = (command-said _ _ _ _ _ _ _ _ _ (c .before .before .before .before .command .ensures), search needs)
+
+same-length : tie.Need-same-length
+same-length c = search needs
+
+returns : tie.Need-returns
+returns c =
+    let i = c .before .before .before .before .before in
+    let d = i .before .before .before .before .before in
+    command-runs _ _ _ _ _ _ _ _ _ _ _ _ (d .word-at .ensures) (lent-end (d .before .before .before .args .d .now) 10) (i .command .ensures) (c .responded .ensures)
+
+pub command-record-spec : {M : Type 1} → statement M
+command-record-spec =
+    tie.close
+    (tie.spec
+    word-at-requires
+    cast-limit
+    sub-command
+    part-command-start
+    part-command-end
+    sub-command-2
+    part-command-start-2
+    part-command-end-2
+    slice-aggregate-command
+    command-requires
+    slice-aggregate-responded
+    responded-requires
+    same-length
+    returns)
