@@ -52,6 +52,7 @@ fn early_status(selected: bool, parameters: bool, logged: bool, length: bool) ->
     0x9000
 }
 
+// A command without a C-MAC: selection, parameters, record, length.
 pub fn plain_status(p: Plain, selected: bool, a: Apdu, logsize: u8) -> u16
     ensures { λ r. ⌜ r ≡ plainStatus p selected a logsize ⌝ }
 {
@@ -61,6 +62,7 @@ pub fn plain_status(p: Plain, selected: bool, a: Apdu, logsize: u8) -> u16
     early_status(may_run(p, selected), parameters, logged, length)
 }
 
+// A command with a C-MAC.
 pub fn signed_status(g: Signed, selected: bool, a: Apdu) -> u16
     ensures { λ r. ⌜ r ≡ signedStatus g selected a ⌝ }
 {

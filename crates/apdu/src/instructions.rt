@@ -73,6 +73,7 @@ fn of_94(ins: u8) -> Instruction
     }
 }
 
+// The instruction of a class byte and an instruction byte.
 pub fn classify(cla: u8, ins: u8) -> Instruction
     ensures { λ r. ⌜ r ≡ instruction cla ins ⌝ }
 {

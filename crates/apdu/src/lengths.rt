@@ -7,6 +7,7 @@ use crate::instructions::Signed;
 // A C-MAC's bytes, the last of a signed command's data.
 pub const MAC_SIZE: u8 = 8;
 
+// Whether Lc is right for a command without a C-MAC.
 pub fn plain_length(p: Plain, lc: u8) -> bool
     ensures { λ r. ⌜ r ≡ plainLength p lc ⌝ }
 {
@@ -20,6 +21,7 @@ pub fn plain_length(p: Plain, lc: u8) -> bool
     }
 }
 
+// Whether Lc, which counts the C-MAC, is right for a command with one.
 pub fn signed_length(g: Signed, lc: u8) -> bool
     ensures { λ r. ⌜ r ≡ signedLength g lc ⌝ }
 {

@@ -34,6 +34,7 @@ fn is_tag(tag: u8) -> bool
     }
 }
 
+// Whether P1 and P2 are right for a command without a C-MAC.
 pub fn plain_parameters(p: Plain, p1: u8, p2: u8) -> bool
     ensures { λ r. ⌜ r ≡ plainParameters p p1 p2 ⌝ }
 {
@@ -66,6 +67,7 @@ pub fn plain_parameters(p: Plain, p1: u8, p2: u8) -> bool
     }
 }
 
+// Whether they are for a command with one.
 pub fn signed_parameters(g: Signed, p1: u8, p2: u8) -> bool
     ensures { λ r. ⌜ r ≡ signedParameters g p1 p2 ⌝ }
 {

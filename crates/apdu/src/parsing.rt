@@ -16,6 +16,7 @@ pub enum Parsed {
     WrongLength,
 }
 
+// What bytes are as a command.
 pub fn parse(command: &[u8]) -> Parsed
     ensures { λ r. ⌜ r ≡ parsed (now (command .entry)) ⌝ }
 {

@@ -3,7 +3,7 @@
 ghost use mathlib.Core.Path.{_≡_};
 ghost use lib.ListN.{length};
 ghost use Rattle.stores.specs.Stores.{leaves};
-ghost use Rattle.card.specs.Changes.{Change, state, entry, parameters, both, plan};
+ghost use Rattle.card.specs.Changes.{Change, state, entry, parameters, plan};
 use crate::bytes::hot_bytes;
 use crate::pieces::put_cold;
 use card::Head;

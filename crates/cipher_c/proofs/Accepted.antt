@@ -1,5 +1,5 @@
 -- A call whose lengths are right, over plain variables: what the code has at the end is what the definition says. Assumes nothing.
-use mathlib.Core.Path.{_≡_, refl, sym, ap, _∙_}
+use mathlib.Core.Path.{_≡_, ap, _∙_}
 use mathlib.Core.List.{List}
 use Prim.Native.Nat.{ℕ, _/_, _≤_}
 use native.Mathlib.Omega.{arith}
@@ -10,7 +10,7 @@ use Rattle.octets.proofs.Parts.{field-part, part-all}
 use Rattle.des_spec.specs.Des.{encipher}
 use Rattle.des_spec.specs.Modes.{blocks, cbcText, signature}
 use Rattle.des_spec.proofs.Texts.{length-cbcText}
-use Rattle.cipher_c.specs.Calls.{Called, called, cbcCall, signatureCall}
+use Rattle.cipher_c.specs.Calls.{called, cbcCall, signatureCall}
 
 -- a list is its field of all its bytes
 whole : (l : List ℕ) (n : ℕ) → length l ≡ n → field l 0 n ≡ l

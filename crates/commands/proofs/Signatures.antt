@@ -1,11 +1,10 @@
 -- Step 6, by its tests. Assumes nothing.
 use Prim.Native.Nat.{ℕ, _+_, _-_}
-use mathlib.Core.Bool.{Bool, true, false, _&&_}
+use mathlib.Core.Bool.{true, false}
 use mathlib.Core.List.{List}
-use mathlib.Core.Path.{_≡_, refl}
-use Rattle.octets.specs.Choice.{pick}
+use mathlib.Core.Path.{_≡_}
 use Rattle.octets.specs.Bytes.{part, same}
-use Rattle.octets.proofs.Rules.{and-left, and-right, and-yes}
+use Rattle.octets.proofs.Rules.{and-right}
 use Rattle.card.specs.declared.head.Head.{Head}
 use Rattle.session.specs.declared.Session.{Session}
 use Rattle.session.specs.Session.{closed, chained}

@@ -33,6 +33,7 @@ fn select_data(head: Head, session: Session, command: &[u8], lc: u8) -> Outcome
     select(head, session, &command[5..5 + lc as usize])
 }
 
+// A command without a C-MAC, on its data.
 pub fn plain(
     p: Plain,
     head: Head,

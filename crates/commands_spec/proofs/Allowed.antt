@@ -10,10 +10,10 @@ use Rattle.octets.specs.Choice.{pick, refuse}
 use Rattle.card.specs.declared.head.Head.{Head}
 use Rattle.session.specs.declared.Session.{Session}
 use Rattle.session.specs.declared.Pending.the-variants.{Debiting, Crediting}
-use Rattle.session.specs.Access.{access, hasRmac}
+use Rattle.session.specs.Access.{access}
 use Rattle.session.specs.Packing.{amountOf}
 use Rattle.commands_spec.specs.Transaction.{notAboveZero, keepsLimits}
-use Rattle.commands_spec.specs.InitializeTransaction.{lacks, needed, initializeStatus, initializeJudged, noted}
+use Rattle.commands_spec.specs.InitializeTransaction.{lacks, initializeStatus, initializeJudged, noted}
 use Rattle.commands_spec.specs.CompleteTransaction.{isNoted, isDebit, completeStatus, completeJudged}
 use Rattle.commands_spec.proofs.Steps.{passed}
 use Rattle.commands_spec.proofs.Judgements.{neither}

@@ -15,7 +15,7 @@ use Rattle.card.specs.declared.head.Head.{Head}
 use Rattle.card.specs.Card.{Card, void}
 use Rattle.card.specs.Pin.{wellFormed}
 use Rattle.card.specs.Proper.{pinOk, Bytes, Proper}
-use Rattle.card.specs.Changes.{Change, state, parameters, Fills, changed}
+use Rattle.card.specs.Changes.{Change, state, Fills, changed}
 use Rattle.card.proofs.Done.{proper-fills}
 use Rattle.session.specs.declared.Pending.{Pending}
 use Rattle.session.specs.declared.Pending.the-variants.{Nothing, Update, Debiting, Crediting}
@@ -42,7 +42,7 @@ use Rattle.commands_spec.specs.InitializeUpdate.{initializeUpdateOf}
 use Rattle.commands_spec.specs.ExternalAuthenticate.{authenticated, externalAuthenticateOf}
 use Rattle.commands_spec.specs.PutKey.{putKeyOf}
 use Rattle.commands_spec.specs.PinChange.{pinChangeOf}
-use Rattle.commands_spec.specs.StoreData.{unread, within, storeDataOf}
+use Rattle.commands_spec.specs.StoreData.{unread, storeDataOf}
 use Rattle.commands_spec.specs.VerifyPin.{judged, verifyPinOf}
 use Rattle.commands_spec.specs.InitializeTransaction.{initializeTransactionOf}
 use Rattle.commands_spec.specs.CompleteTransaction.{isDebit, booked, logRecord, completeJudged, completeTransactionOf}

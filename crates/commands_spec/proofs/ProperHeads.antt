@@ -6,7 +6,6 @@ use Prim.Native.Nat.{ℕ, _≤_}
 use native.Mathlib.Omega.{arith}
 use borrow.Author.Tests.{eqb-true, ltb-false}
 use lib.Dec.{eqb}
-use lib.ListN.{length}
 use Rattle.octets.specs.Tests.{allTrue}
 use Rattle.octets.specs.Bytes.{AreBytes, allZero}
 use Rattle.octets.specs.Words.{wordAt}

@@ -5,7 +5,7 @@ use mathlib.Core.List.{List, [], _∷_}
 use Prim.Native.Nat.{ℕ}
 use lib.Dec.{T, eqb}
 use Rattle.octets.specs.Choice.{pick}
-use Rattle.octets.specs.Bytes.{same, zeros, field}
+use Rattle.octets.specs.Bytes.{same, zeros}
 use Rattle.octets.specs.Words.{wordAt}
 use Rattle.card.specs.declared.head.KeySet.{KeySet}
 use Rattle.card.specs.declared.head.Head.{Head}

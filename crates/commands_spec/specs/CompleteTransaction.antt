@@ -2,10 +2,10 @@
 -- 6985; level 11. Also 6985 if it would pass a balance or number limit. Moves balance, number (by one) and log together; the record
 -- carries the new number. Answer, all new: identifier, number, operational status, R-MAC." Assumes nothing.
 use mathlib.Core.Bool.{Bool, true, false, not}
-use mathlib.Core.List.{List, [], _++_}
+use mathlib.Core.List.{List, _++_}
 use Prim.Native.Nat.{ℕ, _+_}
 use lib.Dec.{leb}
-use Rattle.octets.specs.Choice.{pick, refuse}
+use Rattle.octets.specs.Choice.{refuse}
 use Rattle.octets.specs.Words.{word}
 use Rattle.octets.specs.Buffers.{holding}
 use Rattle.card.specs.declared.head.State.{State}

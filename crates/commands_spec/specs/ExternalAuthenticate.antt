@@ -1,7 +1,7 @@
 -- EXTERNAL AUTHENTICATE 84 82, P1 01 or 11, P2 00, host cryptogram, C-MAC: "Step 6 is replaced: not directly after a successful
 -- INITIALIZE UPDATE 6985; cryptogram wrong 6300; C-MAC wrong 6982; the last two close any channel." Assumes nothing.
-use mathlib.Core.Bool.{Bool, true, false, not}
-use mathlib.Core.List.{List, [], _∷_, _++_}
+use mathlib.Core.Bool.{not}
+use mathlib.Core.List.{List, []}
 use Prim.Native.Nat.{ℕ}
 use lib.Dec.{eqb}
 use Rattle.octets.specs.Choice.{pick}

@@ -1,6 +1,5 @@
 -- GET DATA 80 CA 02, P2 tag: "length, value; undefined: 06, 07 length 00, others zeros". Assumes nothing.
-use mathlib.Core.Bool.{Bool}
-use mathlib.Core.List.{List, _∷_}
+use mathlib.Core.List.{_∷_}
 use Prim.Native.Nat.{ℕ}
 use lib.ListN.{length}
 use Rattle.card.specs.declared.head.Head.{Head}

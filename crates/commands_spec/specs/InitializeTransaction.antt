@@ -1,6 +1,6 @@
 -- INITIALIZE TRANSACTION 94 44, P1 00 debit, 01 cash credit, 02 bank credit, P2 00; currency, amount; signed. Steps 7 to 11.
 -- Assumes nothing.
-use mathlib.Core.Bool.{Bool, true, false, not, _&&_, _||_}
+use mathlib.Core.Bool.{Bool, not, _&&_, _||_}
 use mathlib.Core.List.{List, [], _++_}
 use Prim.Native.Nat.{ℕ, _+_}
 use lib.Dec.{ltb, leb, eqb}

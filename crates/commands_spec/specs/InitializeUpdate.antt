@@ -1,7 +1,7 @@
 -- INITIALIZE UPDATE 80 50, P1 set, P2 00, host challenge: "Undefined set: 6A88. Answer: ten zeros, set, 01, card challenge (the lent
 -- random bytes), card cryptogram." Assumes nothing.
-use mathlib.Core.Bool.{Bool, true, false, not}
-use mathlib.Core.List.{List, [], _∷_, _++_}
+use mathlib.Core.Bool.{not}
+use mathlib.Core.List.{List, _∷_, _++_}
 use Prim.Native.Nat.{ℕ}
 use Rattle.octets.specs.Choice.{pick}
 use Rattle.octets.specs.Bytes.{zeros}

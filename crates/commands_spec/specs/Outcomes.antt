@@ -1,5 +1,4 @@
 -- What a command gives: a refusal is its status word alone and changes no card; an answer is its data and 9000. Assumes nothing.
-use mathlib.Core.Bool.{Bool, true, false}
 use mathlib.Core.List.{List, [], _∷_, _++_}
 use Prim.Native.Nat.{ℕ, _-_}
 use lib.Dec.{eqb}

@@ -1,6 +1,6 @@
 -- PIN CHANGE/UNBLOCK 84 24 00 00: "PIN under DEK, or no data; signed; ADMIN. Both fill the tries and clear the flag. Unblock with no
 -- PIN: 6A81. PIN block: ..; else 6A80." Assumes nothing.
-use mathlib.Core.Bool.{Bool, true, false, not, _&&_}
+use mathlib.Core.Bool.{Bool, false, not, _&&_}
 use mathlib.Core.List.{List, []}
 use Prim.Native.Nat.{ℕ}
 use lib.Dec.{ltb, eqb}

@@ -1,6 +1,6 @@
 -- PUT DATA 84 DA 02, P2 tag: "signed; personalized; ADMIN. State variable, identifier, or currency with balance above 0 6A81; length
 -- or range, balance above the new maximum, or number above it 6A80. Length 0 unsets 06, 07." Assumes nothing.
-use mathlib.Core.Bool.{Bool, true, false, not, _&&_, _||_}
+use mathlib.Core.Bool.{Bool, false, not, _&&_, _||_}
 use mathlib.Core.List.{List, []}
 use Prim.Native.Nat.{ℕ}
 use lib.Dec.{ltb, leb, eqb}

@@ -1,5 +1,5 @@
 -- PUT KEY 84 D8 00, P2 set: "three keys under DEK; signed; ADMIN". Assumes nothing.
-use mathlib.Core.Bool.{Bool, true, false}
+use mathlib.Core.Bool.{true}
 use mathlib.Core.List.{List, []}
 use Prim.Native.Nat.{ℕ}
 use lib.Dec.{ltb}

@@ -1,10 +1,9 @@
 -- A command on a card, in document 01's order: steps 1 to 5; step 6, "Signed commands: no channel, or wrong C-MAC, 6982 and the
 -- channel closes. A right C-MAC moves the chain on even if a later step refuses"; then the command's own rules. Every command ends
 -- what was pending. Assumes nothing.
-use mathlib.Core.Bool.{Bool, true, false, not, _&&_}
+use mathlib.Core.Bool.{_&&_}
 use mathlib.Core.List.{List}
 use Prim.Native.Nat.{ℕ, _+_, _-_}
-use lib.Dec.{eqb}
 use lib.ListN.{getD}
 use Rattle.octets.specs.Choice.{pick}
 use Rattle.octets.specs.Bytes.{byteAt, part, same}

@@ -1,7 +1,7 @@
 -- SELECT 00 A4 04 00, AID: "identifier, administrative and operational status. Any length is allowed; another AID, or none: 6A82,
 -- deselected." Assumes nothing.
 use mathlib.Core.Bool.{Bool, true, false}
-use mathlib.Core.List.{List, [], _∷_, _++_}
+use mathlib.Core.List.{List, _∷_, _++_}
 use Prim.Native.Nat.{ℕ}
 use lib.ListN.{take}
 use Rattle.octets.specs.Choice.{pick}

@@ -7,7 +7,6 @@ use lib.Dec.{ltb, leb, eqb}
 use lib.ListN.{length, getD, take, drop, set}
 use Rattle.octets.specs.Choice.{pick, refuse}
 use Rattle.octets.specs.Bytes.{zeros}
-use Rattle.card.specs.declared.head.Parameters.{Parameters}
 use Rattle.card.specs.declared.head.Head.{Head}
 use Rattle.session.specs.declared.Session.{Session}
 use Rattle.session.specs.Session.{ended}

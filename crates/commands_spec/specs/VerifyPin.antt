@@ -5,7 +5,7 @@ use mathlib.Core.Bool.{Bool, true, false, not}
 use mathlib.Core.List.{List, []}
 use Prim.Native.Nat.{ℕ, _-_}
 use lib.Dec.{ltb, eqb}
-use Rattle.octets.specs.Choice.{pick, refuse}
+use Rattle.octets.specs.Choice.{refuse}
 use Rattle.octets.specs.Bytes.{same}
 use Rattle.octets.specs.Words.{word}
 use Rattle.octets.specs.Buffers.{holding}

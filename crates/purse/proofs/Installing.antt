@@ -1,15 +1,15 @@
 -- Installation, by its tests. Assumes nothing.
-use Prim.Native.Nat.{ℕ, _+_, _≤_, _<_}
-use mathlib.Core.Bool.{Bool, true, false, not, _&&_, false≢true}
-use mathlib.Core.List.{List, []}
-use mathlib.Core.Path.{_≡_, refl, sym, ap, _∙_}
+use Prim.Native.Nat.{ℕ, _+_, _≤_}
+use mathlib.Core.Bool.{Bool, true, false, _&&_, false≢true}
+use mathlib.Core.List.{List}
+use mathlib.Core.Path.{_≡_, refl}
 use native.Mathlib.Omega.{arith}
 use borrow.Author.Tests.{eq-eqb, ne-eqb, eqb-true}
 use lib.Dec.{eqb, leb, ltb}
 use lib.ListN.{length}
 use Rattle.octets.specs.Choice.{pick}
 use Rattle.octets.specs.Bytes.{byteAt}
-use Rattle.stores.specs.Stores.{Store, leaves, answers, reports}
+use Rattle.stores.specs.Stores.{leaves, answers, reports}
 use Rattle.card.specs.declared.head.Fixed.{Fixed}
 use Rattle.card.specs.declared.head.KeySet.{KeySet}
 use Rattle.card.specs.Layout.{memorySize}

@@ -1,24 +1,21 @@
 -- A command on memory, by its tests; and the record that it would read, in memory and in the card's log. Assumes nothing.
 use Prim.Native.Nat.{ℕ, _-_, _≤_, _<_}
-use mathlib.Core.Bool.{Bool, true, false, not}
-use mathlib.Core.List.{List, [], _∷_}
-use mathlib.Core.Option.{Option, none, some}
-use mathlib.Core.Path.{_≡_, refl, sym, ap, _∙_}
+use mathlib.Core.Bool.{true, false}
+use mathlib.Core.List.{List}
+use mathlib.Core.Path.{_≡_, refl, _∙_}
 use native.Mathlib.Omega.{arith}
 use native.Mathlib.Decide.{decLe}
 use native.Mathlib.Nat.{lt-of-not-le}
-use borrow.Author.Tests.{eq-eqb, ne-eqb, lt-ltb, le-ltb, leb-true}
-use lib.Dec.{eqb, ltb, leb}
+use borrow.Author.Tests.{eq-eqb, ne-eqb, lt-ltb, le-ltb}
+use lib.Dec.{eqb, ltb}
 use lib.ListN.{length, getD, List·getD-eq-default}
-use Rattle.octets.specs.Choice.{pick}
 use Rattle.octets.specs.Bytes.{field}
 use Rattle.octets.proofs.Parts.{field-part, part-all}
 use Rattle.card.specs.declared.head.Head.{Head}
-use Rattle.card.specs.declared.head.State.{State}
 use Rattle.card.specs.declared.reading.Reading.{Reading}
 use Rattle.card.specs.Card.{Card, void}
 use Rattle.card.specs.Layout.{memorySize}
-use Rattle.card.specs.Reading.{hotOf, fixedOf, fixedIn, filledIn, headIn, recordIn, logIn, readable, readCard, reading, noCard}
+use Rattle.card.specs.Reading.{fixedOf, fixedIn, headIn, recordIn, logIn, readable, readCard, reading}
 use Rattle.card.proofs.Cards.{readable-read}
 use Rattle.card.proofs.InPlace.{record-void}
 use Rattle.card.proofs.Ring.{length-rows, row-at}
@@ -31,7 +28,6 @@ use Rattle.purse_spec.specs.Calls.{Run, refusal}
 use Rattle.purse_spec.specs.Commands.{leastArea, performed, onCard, command}
 use Rattle.purse.specs.declared.calls.Called.{Called}
 use Rattle.purse.specs.Said.{said, storeless}
-use Rattle.purse.proofs.Starting.{reads-ok}
 
 -- eight bytes are all of the eight
 pub drawn-whole : (s : List ℕ) → length s ≡ 8 → field s 0 8 ≡ s

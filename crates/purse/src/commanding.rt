@@ -53,6 +53,7 @@ fn run(
     perform(memory, state, outcome, area, limit)
 }
 
+// Answers 0 to 4 and 7. The response leads the area after 0.
 pub fn command(
     memory: &mut [u8],
     session: Session,

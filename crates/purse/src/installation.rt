@@ -73,6 +73,7 @@ fn keys_of(bytes: &[u8]) -> KeySet
     }
 }
 
+// Answers 0, 1, 6 and 7.
 pub fn install(memory: &mut [u8], bytes: &[u8], limit: usize) -> Called
     ensures { λ r. ⌜ (r ≡ said (installation (now (memory .entry)) (now (bytes .entry)) limit))
         × (now (memory .exit) ≡ installation (now (memory .entry)) (now (bytes .entry)) limit .memory) ⌝ }

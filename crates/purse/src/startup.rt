@@ -7,6 +7,7 @@ use crate::calls::storeless;
 use card::layout;
 use session::unselected;
 
+// Answers 0, 1 and 2.
 pub fn start_up(memory: &mut [u8], limit: usize) -> Called
     ensures { λ r. ⌜ (r ≡ said (startup (now (memory .entry)) limit))
         × (now (memory .exit) ≡ startup (now (memory .entry)) limit .memory) ⌝ }

@@ -6,6 +6,7 @@ ghost use Rattle.commands_spec.specs.StoreData.{storeStatus};
 ghost use Rattle.commands_spec.specs.VerifyPin.{verifyStatus};
 ghost use Rattle.commands_spec.specs.PutData.{locked, undercuts, dataStatus, putDataStatus};
 
+// PUT KEY.
 pub fn put_key_status(level: u8) -> u16
     ensures { λ r. ⌜ r ≡ putKeyStatus level ⌝ }
 {
@@ -15,6 +16,7 @@ pub fn put_key_status(level: u8) -> u16
     0x9000
 }
 
+// PIN CHANGE/UNBLOCK; `good` says that the block is well formed.
 pub fn pin_status(unblock: bool, defined: bool, level: u8, good: bool) -> u16
     ensures { λ r. ⌜ r ≡ pinStatus unblock defined level good ⌝ }
 {
@@ -36,6 +38,7 @@ pub fn pin_status(unblock: bool, defined: bool, level: u8, good: bool) -> u16
     0x9000
 }
 
+// STORE DATA; `inside` says that no TLV is past the end, `good` that the rest of the data is right.
 pub fn store_status(personalized: bool, keyed: bool, level: u8, inside: bool, good: bool) -> u16
     ensures { λ r. ⌜ r ≡ storeStatus personalized keyed level inside good ⌝ }
 {
@@ -57,6 +60,7 @@ pub fn store_status(personalized: bool, keyed: bool, level: u8, inside: bool, go
     0x9000
 }
 
+// VERIFY PIN, before the PIN is judged.
 pub fn verify_status(personalized: bool, defined: bool, level: u8, tries: u8) -> u16
     ensures { λ r. ⌜ r ≡ verifyStatus personalized defined level tries ⌝ }
 {
@@ -125,6 +129,7 @@ fn data_status(personalized: bool, locked: bool, level: u8, good: bool, undercut
     0x9000
 }
 
+// PUT DATA; `good` says that length and range of the value are right.
 pub fn put_data_status(
     personalized: bool,
     tag: u8,

@@ -27,6 +27,7 @@ pub fn needed(p1: u8) -> u8
     }
 }
 
+// INITIALIZE TRANSACTION.
 pub fn initialize_status(
     personalized: bool,
     lacking: bool,
@@ -84,6 +85,7 @@ pub fn initialize_status(
     0x9000
 }
 
+// COMPLETE TRANSACTION; `keeps` says that the new balance keeps its limits.
 pub fn complete_status(
     personalized: bool,
     noted: bool,

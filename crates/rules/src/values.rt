@@ -1,9 +1,5 @@
 // Which values a tag takes.
-ghost use mathlib.Core.Bool.{_&&_, _||_};
 ghost use mathlib.Core.Path.{_≡_};
-ghost use lib.Dec.{leb, eqb};
-ghost use lib.ListN.{length};
-ghost use Rattle.octets.specs.Words.{wordAt};
 ghost use Rattle.commands_spec.specs.Data.{maximumOk, bankLength, agentLength, valueOk};
 
 // A maximum of two bytes, at most 32,767.
@@ -39,6 +35,7 @@ fn agent_length(n: usize) -> bool
     n <= 16
 }
 
+// Whether a tag takes a value: its length and its range.
 pub fn value_ok(tag: u8, v: &[u8]) -> bool
     ensures { λ r. ⌜ r ≡ valueOk tag (now (v .entry)) ⌝ }
 {

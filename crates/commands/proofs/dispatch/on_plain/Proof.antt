@@ -1,4 +1,4 @@
-use mathlib.Core.Path.{_≡_, sym, _∙_}
+use mathlib.Core.Path.{sym, _∙_}
 use Rattle.octets.proofs.Rules.{rules}
 use Rattle.commands_spec.specs.Outcomes.{decided}
 use Rattle.commands.proofs.Bodies.{plain-length}

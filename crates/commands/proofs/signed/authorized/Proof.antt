@@ -1,11 +1,7 @@
-use Prim.Native.Nat.{_+_, _-_}
-use mathlib.Core.Bool.{true, false, _&&_}
-use mathlib.Core.Path.{_≡_, refl, sym, _∙_}
+use Prim.Native.Nat.{_-_}
+use mathlib.Core.Path.{refl, sym, _∙_}
 use native.Mathlib.Omega.{arith}
 use borrow.Author.Tests.{not-true, not-false}
-use Rattle.octets.proofs.Rules.{and-left, and-right, and-yes}
-use Rattle.apdu.specs.Lengths.{macSize}
-use Rattle.commands_spec.specs.Respond.{authorized}
 use Rattle.commands.proofs.Bodies.{signed-least, mac-sent}
 use Rattle.commands.proofs.Signatures.{unsigned, wrongly-signed, rightly-signed}
 use borrow.Author.Needs.{needs}

@@ -3,7 +3,6 @@ use native.Mathlib.Omega.{arith}
 use borrow.Author.Needs.{needs}
 use borrow.Author.Tests.{le-leb, lt-leb}
 use lib.ListN.{length, length-take}
-use Rattle.octets.specs.Bytes.{paste}
 use Rattle.octets.specs.Buffers.{content}
 use Rattle.octets.proofs.Pasting.{paste-past}
 use Rattle.octets.proofs.Holding.{content-front}

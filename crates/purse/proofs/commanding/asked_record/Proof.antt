@@ -1,7 +1,4 @@
 use Prim.Native.Nat.{_-_}
-use mathlib.Core.Path.{_≡_}
-use native.Mathlib.Omega.{arith}
-use Rattle.octets.specs.Bytes.{byteAt}
 use Rattle.commands_spec.specs.ReadRecord.{asked}
 use borrow.Author.Needs.{needs}
 use Rattle.purse.proofs.commanding.asked_record.Statement.{statement}

@@ -1,5 +1,4 @@
 use Rattle.card.specs.Card.{Card}
-use mathlib.Core.Path.{_≡_}
 use Rattle.purse.proofs.Outcomes.{performed-run}
 use borrow.Author.Needs.{needs}
 use Rattle.purse.proofs.performing.perform.Statement.{statement}
