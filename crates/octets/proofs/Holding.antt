@@ -11,8 +11,8 @@ use lib.ListN.{length, take, drop, length-append, length-replicate, replicate-ap
 use lib.Seq.{take-all, take-length, take-append-seam, drop-append-add, drop-at, length-take-le}
 use Rattle.octets.specs.declared.buffer.Buffer.{Buffer}
 use Rattle.octets.specs.Bytes.{zeros, paste}
-use Rattle.octets.specs.Buffers.{capacity, content, holding, appended, copied}
-use Rattle.octets.proofs.Pasting.{paste-fits, paste-front}
+use Rattle.octets.specs.Buffers.{capacity, content, holding, appended}
+use Rattle.octets.proofs.Pasting.{paste-fits}
 
 drop-zeros : (k j : ℕ) → j ≤ k → drop j (zeros k) ≡ zeros (k - j)
 drop-zeros k j h =
@@ -66,17 +66,3 @@ step {q} {b} {x} {n} p m e h l t =
       is = e ∙ ap (λ (a : Buffer). appended a p) (h .is) ∙ appended-holding x p (omega arith);
       size = length-append x p ∙ omega arith;
     }
-
-pub held : {b : Buffer} {x : List ℕ} {n : ℕ} → Holds b x n → content b ≡ x
-held {b} {x} h = ap content (h .is) ∙ content-holding x
-
--- copied to the front of an area that has room
-pub held-copied : {b : Buffer} {x : List ℕ} {n : ℕ} → Holds b x n → (area : List ℕ) → n ≤ length area → copied (content b) area ≡ n
-held-copied {b} {x} {n} h area f =
-    let k : length x ≡ n = h .size in
-    rw (held h, le-leb (length x) (length area) (omega arith)) k
-
-pub held-front : {b : Buffer} {x : List ℕ} {n : ℕ} → Holds b x n → (area : List ℕ) → n ≤ length area → paste area 0 (content b) ≡ x ++ drop n area
-held-front {b} {x} {n} h area f =
-    let k : length x ≡ n = h .size in
-    rw (held h) (paste-front area x (omega arith) ∙ rw k)

@@ -2,12 +2,11 @@
 use Prim.Native.Nat.{ℕ, zero, suc, _+_, _-_, _≤_, _<_}
 use mathlib.Core.Path.{_≡_, sym, ap, _∙_}
 use mathlib.Core.List.{List, [], _∷_, _++_}
-use native.Mathlib.Numerals.{add-one}
 use native.Mathlib.Omega.{arith}
 use native.Mathlib.Decide.{decLe}
 use native.Mathlib.Nat.{lt-of-not-le, sub-zero, zero-sub, suc-sub-suc}
-use lib.ListN.{length, getD, take, drop, length-append, length-drop, length-replicate, getD-replicate, drop-of-length-le, List·getD-eq-default, List·getD-append}
-use lib.Seq.{take-at, take-all, take-nil, take-take, take-add, take-suc, take-append-le, drop-at, drop-drop, drop-append-le, drop-append-add, length-take-le, getD-take, getD-drop, getD-append-add, ext-getD}
+use lib.ListN.{length, getD, take, drop, length-append, length-drop, length-replicate, getD-replicate, List·getD-eq-default, List·getD-append}
+use lib.Seq.{take-at, take-all, take-nil, take-take, take-append-le, drop-at, drop-drop, drop-append-le, length-take-le, getD-take, getD-drop, getD-append-add, ext-getD}
 use Rattle.octets.specs.Bytes.{zeros, byteAt, part, field}
 
 drop-take : (i n : ℕ) (s : List ℕ) → drop i (take n s) ≡ take (n - i) (drop i s)
@@ -31,13 +30,6 @@ part-at s at n i h = getD-take n (drop at s) i 0 h ∙ getD-drop at s i 0
 pub part-part : (s : List ℕ) (at n i k : ℕ) → i + k ≤ n → part (part s at n) i k ≡ part s (at + i) k
 part-part s at n i k h = rw (drop-take i n (drop at s), take-take k (n - i) (drop i (drop at s)) (omega arith), drop-drop i at s)
 
-pub part-add : (s : List ℕ) (at n k : ℕ) → part s at (n + k) ≡ part s at n ++ part s (at + n) k
-part-add s at n k = rw (take-add n k (drop at s), drop-drop n at s)
-
--- one byte more
-pub part-more : (s : List ℕ) (at i : ℕ) → at + i < length s → part s at (i + 1) ≡ part s at i ++ (byteAt s (at + i) ∷ [])
-part-more s at i h = rw (add-one, take-suc (drop at s) i 0 (rw length-drop (omega arith)), getD-drop)
-
 pub part-all : (s : List ℕ) (n : ℕ) → length s ≤ n → part s 0 n ≡ s
 part-all s n h = take-all n s h
 
@@ -45,9 +37,6 @@ part-all s n h = take-all n s h
 pub part-left : (s t : List ℕ) (at n : ℕ) → at + n ≤ length s → part (s ++ t) at n ≡ part s at n
 part-left s t at n h =
     rw (drop-append-le at s t (omega arith), take-append-le n (drop at s) t (rw length-drop (omega arith)))
-
-pub part-right : (s t : List ℕ) (at n : ℕ) → part (s ++ t) (length s + at) n ≡ part t at n
-part-right s t at n = rw drop-append-add
 
 pub part-between : (p s t : List ℕ) (at n : ℕ) → length p ≡ at → length s ≡ n → part (p ++ (s ++ t)) at n ≡ s
 part-between p s t at n e h = rw (drop-at p (s ++ t) at e) (take-at s t n h)
@@ -78,10 +67,6 @@ field-at s at n i h = getD-take n (drop at s ++ zeros n) i 0 h ∙ padded (drop 
 pub field-part : (s : List ℕ) (at n : ℕ) → at + n ≤ length s → field s at n ≡ part s at n
 unfolding field
 field-part s at n h = take-append-le n (drop at s) (zeros n) (rw length-drop (omega arith))
-
-pub field-past : (s : List ℕ) (at n : ℕ) → length s ≤ at → field s at n ≡ zeros n
-unfolding field
-field-past s at n h = rw (drop-of-length-le s h) (take-all n (zeros n) (omega (arith, length-replicate {A = ℕ} n 0)))
 
 -- the string that has a field's bytes is the field
 pub field-is : (s t : List ℕ) (at n : ℕ) → length t ≡ n → ((i : ℕ) → i < n → byteAt t i ≡ byteAt s (at + i)) → t ≡ field s at n

@@ -8,8 +8,8 @@ use native.Mathlib.Nat.{lt-of-not-le, zero-add, add-zero}
 use borrow.Author.Tests.{le-leb, lt-leb}
 use lib.ListN.{length, take, drop, length-append, length-drop, drop-of-length-le, take-append-drop}
 use lib.Seq.{take-at, drop-at, drop-drop, length-take-le, sets, sets-eq}
-use Rattle.octets.specs.Bytes.{byteAt, part, paste}
-use Rattle.octets.proofs.Parts.{part-at, part-left, part-between}
+use Rattle.octets.specs.Bytes.{part, paste}
+use Rattle.octets.proofs.Parts.{part-between}
 
 pub paste-fits : (d : List ℕ) (at : ℕ) (s : List ℕ) → at + length s ≤ length d → paste d at s ≡ take at d ++ s ++ drop (at + length s) d
 unfolding paste
@@ -77,10 +77,6 @@ module _ (d : List ℕ) (at : ℕ) (s : List ℕ) (h : at + length s ≤ length 
   pub part-pasted : part (paste d at s) at (length s) ≡ s
   part-pasted = rw split (part-between (take at d) s (drop (at + length s) d) at (length s) front-length refl)
 
-  pub byte-pasted : (i : ℕ) → i < length s → byteAt (paste d at s) (at + i) ≡ byteAt s i
-  byte-pasted i k =
-      sym (part-at (paste d at s) at (length s) i k) ∙ ap (λ (x : List ℕ). byteAt x i) part-pasted
-
   -- a second piece right after the first
   pub paste-next : (t : List ℕ) → at + length s + length t ≤ length d → paste (paste d at s) (at + length s) t ≡ paste d at (s ++ t)
   paste-next t k =
@@ -90,18 +86,3 @@ module _ (d : List ℕ) (at : ℕ) (s : List ℕ) (h : at + length s ≤ length 
       let a = drops (paste d at s) d (at + length s) (at + length s + length t) (omega arith) drop-pasted in
       paste-fits (paste d at s) (at + length s) t f
       ∙ rw (take-pasted, a, e, append-assoc (take at d) s t) (sym (paste-fits d at (s ++ t) g))
-
--- what lies before or after the piece stays
-module _ (d : List ℕ) (at : ℕ) (s : List ℕ) (i k : ℕ) where
-  pub part-before : i + k ≤ at → part (paste d at s) i k ≡ part d i k
-  part-before h = elim (decLe (at + length s) (length d)) [ yes f ↦ fits f | no f ↦ ap (λ (x : List ℕ). part x i k) (paste-past d at s (lt-of-not-le f)) ]
-    where
-      fits : at + length s ≤ length d → part (paste d at s) i k ≡ part d i k
-      fits f =
-          let l : i + k ≤ length (take at d) = omega (arith, front-length d at s f) in
-          rw (split d at s f) (part-left (take at d) (s ++ drop (at + length s) d) i k l)
-          ∙ sym (part-left (take at d) (drop at d) i k l)
-          ∙ rw take-append-drop
-
-  pub part-after : at + length s ≤ i → part (paste d at s) i k ≡ part d i k
-  part-after h = elim (decLe (at + length s) (length d)) [ yes f ↦ ap (take k) (drops (paste d at s) d (at + length s) i h (drop-pasted d at s f)) | no f ↦ ap (λ (x : List ℕ). part x i k) (paste-past d at s (lt-of-not-le f)) ]

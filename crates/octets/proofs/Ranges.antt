@@ -2,19 +2,10 @@
 use Prim.Native.Nat.{ℕ, zero, suc, _+_, _/_, _%_, _<_}
 use mathlib.Core.List.{List, [], _∷_, _++_}
 use native.Mathlib.Omega.{arith}
-use native.Mathlib.Decide.{decLe}
-use native.Mathlib.Nat.{lt-of-not-le}
-use mir.Syntax.{w8}
-use mir.Val.{Fits}
-use lib.ListN.{length, getD, set, take, drop}
+use lib.ListN.{set, take, drop}
 use lib.Seq.{getD-drop}
-use Rattle.octets.specs.Bytes.{AreBytes, zeros, part, field, paste}
+use Rattle.octets.specs.Bytes.{AreBytes, zeros, part, field}
 use Rattle.octets.specs.Words.{word}
-use Rattle.octets.proofs.Pasting.{paste-fits, paste-past}
-
--- what owning a slice tells of its elements
-pub slice-bytes : (s : List ℕ) → ((i : ℕ) → Fits w8 (getD s i 0)) → AreBytes s
-slice-bytes s f i = f i .fits
 
 pub none-bytes : AreBytes []
 none-bytes i = omega arith
@@ -55,13 +46,6 @@ part-bytes s at n f = take-bytes n (drop at s) (drop-bytes at s f)
 pub field-bytes : (s : List ℕ) (at n : ℕ) → AreBytes s → AreBytes (field s at n)
 unfolding field
 field-bytes s at n f = take-bytes n (drop at s ++ zeros n) (append-bytes (drop at s) (zeros n) (drop-bytes at s f) (zeros-bytes n))
-
-pub paste-bytes : (d : List ℕ) (at : ℕ) (s : List ℕ) → AreBytes d → AreBytes s → AreBytes (paste d at s)
-paste-bytes d at s f g =
-    elim (decLe (at + length s) (length d)) [
-      | yes h ↦ rw (paste-fits d at s h) (append-bytes (take at d ++ s) _ (append-bytes (take at d) s (take-bytes at d f) g) (drop-bytes (at + length s) d f))
-      | no h ↦ rw (paste-past d at s (lt-of-not-le h)) f
-    ]
 
 pub word-bytes : (n : ℕ) → n < 65536 → AreBytes (word n)
 word-bytes n h = cons-bytes (n / 256) (n % 256 ∷ []) (omega arith) (cons-bytes (n % 256) [] (omega arith) none-bytes)

@@ -6,12 +6,11 @@ use mathlib.Core.List.{List, [], _∷_}
 use native.Mathlib.Decide.{decLe}
 use native.Mathlib.Nat.{lt-of-not-le}
 use native.Mathlib.Omega.{arith}
-use lib.ListN.{length, take, drop, set}
+use lib.ListN.{length, drop, set}
 use lib.Seq.{drop-set-lt, drop-set-add, take-set-le, getD-set-other, sets}
 use Rattle.octets.specs.Bytes.{part, paste, byteAt}
 use Rattle.octets.proofs.Pasting.{paste-sets, part-pasted}
-use Rattle.stores.specs.Stores.{Store, applied, writes, leaves, Out, OnlyAt}
-use Rattle.stores.proofs.Plans.{only-take}
+use Rattle.stores.specs.Stores.{Store, applied, writes, Out, OnlyAt}
 
 pub part-set : (m : List ℕ) (a n i v : ℕ) → Out a n i → part (set m i v) a n ≡ part m a n
 part-set m a n i v o = elim (decLe a i) [ yes h ↦ above h | no h ↦ below (lt-of-not-le h) ]
@@ -29,11 +28,6 @@ pub part-applied : (p : List Store) (m : List ℕ) (a n : ℕ) → OnlyAt (Out a
 unfolding applied
 part-applied [] m a n h = refl
 part-applied (s ∷ p) m a n h = part-applied p (set m (s .at) (s .value)) a n (h .1) ∙ part-set m a n (s .at) (s .value) (h .0)
-
--- at any limit
-pub part-leaves : (p : List Store) (L : ℕ) (m : List ℕ) (a n : ℕ) → OnlyAt (Out a n) p → part (leaves p L m) a n ≡ part m a n
-unfolding leaves
-part-leaves p L m a n h = part-applied (take L p) m a n (only-take (Out a n) L p h)
 
 pub byte-applied : (p : List Store) (m : List ℕ) (i : ℕ) → OnlyAt (λ a. i ≢ a) p → byteAt (applied p m) i ≡ byteAt m i
 unfolding applied
