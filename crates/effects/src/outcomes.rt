@@ -1,10 +1,9 @@
 // What a command gives: a refusal, an answer, or what its rules decide.
-ghost use mathlib.Core.List.{List};
 ghost use mathlib.Core.Path.{_≡_};
-ghost use Prim.Native.Nat.{ℕ, _≤_};
-ghost use lib.ListN.{length};
-ghost use Rattle.octets.specs.Buffers.{holding};
-ghost use Rattle.commands_spec.specs.Outcomes.{refused, done, decided, tried};
+ghost use Rattle.octets.specs.Buffers.{appended};
+ghost use Rattle.octets.specs.Words.{word};
+ghost use Rattle.card.specs.Card.{void};
+ghost use Rattle.commands_spec.specs.Outcomes.{refused, decided, tried};
 use card::Head;
 use card::State;
 use commands_spec::Effect;
@@ -29,9 +28,9 @@ pub fn refused(head: Head, session: Session, w: u16) -> Outcome
     }
 }
 
-// An answer of at most 126 bytes, and 9000.
+// An answer in a buffer, and 9000; for one of at most 126 bytes that is the definition's `done` (law `done-held`).
 pub fn done(effect: Effect, head: Head, session: Session, answer: Buffer) -> Outcome
-    ensures { λ r. ⌜ ((x : List ℕ) → answer ≡ holding x → length x ≤ 126 → r ≡ done effect head session x) ⌝ }
+    ensures { λ r. ⌜ r ≡ record { status = 0x9000; effect = effect; head = head; entry = void; reply = appended answer (word 0x9000); session = session } ⌝ }
 {
     let reply = append_word(answer, 0x9000);
     Outcome {

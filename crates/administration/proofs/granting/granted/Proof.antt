@@ -1,5 +1,6 @@
 use mathlib.Core.List.{[]}
 use borrow.Author.Needs.{needs}
+use Rattle.effects.proofs.Answers.{done-held}
 use Rattle.administration.proofs.granting.granted.Statement.{statement}
 use Rattle.administration.proofs.granting.granted.Tie as tie
 
@@ -10,7 +11,7 @@ done-requires : tie.Need-done-requires
 done-requires c κs = search needs
 
 returns : tie.Need-returns
-returns c = c .done .ensures [] (c .before .empty .ensures) (search needs)
+returns c = done-held (c .done .ensures) [] (c .before .empty .ensures) (search needs)
 
 pub granted-spec : {M : Type 1} → statement M
 granted-spec = tie.close (tie.spec empty-requires done-requires returns)

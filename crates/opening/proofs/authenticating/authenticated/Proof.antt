@@ -4,6 +4,7 @@ use mathlib.Core.Path.{_≡_}
 use native.Mathlib.Omega.{arith}
 use borrow.Author.Needs.{needs}
 use borrow.Author.Tests.{not-true, not-false}
+use Rattle.effects.proofs.Answers.{done-held}
 use Rattle.commands_spec.specs.ExternalAuthenticate.{authenticated}
 use Rattle.opening.proofs.authenticating.authenticated.Statement.{statement}
 use Rattle.opening.proofs.authenticating.authenticated.Tie as tie
@@ -71,7 +72,7 @@ returns-3 c =
     let s = d .ends-with in
     let e : q .result ≡ true = not-false (q .result) (b .before .before .if1 .left) in
     let f : s .result ≡ true = not-false (s .result) (b .before .if2 .left) in
-    rw (← q .ensures, e, ← d .before .before .cmac .ensures, ← s .ensures, f, ← b .level-for .ensures, ← c .before .before .before .agreed .ensures, ← c .before .before .opened .ensures) (c .done .ensures [] (c .before .empty .ensures) (omega arith))
+    rw (← q .ensures, e, ← d .before .before .cmac .ensures, ← s .ensures, f, ← b .level-for .ensures, ← c .before .before .before .agreed .ensures, ← c .before .before .opened .ensures) (done-held (c .done .ensures) [] (c .before .empty .ensures) (omega arith))
 
 pub authenticated-spec : {M : Type 1} → statement M
 authenticated-spec =

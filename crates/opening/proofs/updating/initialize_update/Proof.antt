@@ -2,6 +2,7 @@ use mathlib.Core.Bool.{true, false}
 use mathlib.Core.Path.{_≡_}
 use borrow.Author.Needs.{needs}
 use borrow.Author.Tests.{not-true, not-false}
+use Rattle.effects.proofs.Answers.{done-held}
 use Rattle.commands_spec.specs.InitializeUpdate.{initializeUpdateOf}
 use Rattle.opening.proofs.updating.initialize_update.Statement.{statement}
 use Rattle.opening.proofs.updating.initialize_update.Tie as tie
@@ -46,7 +47,7 @@ returns-2 c =
     let q = d .keys-of in
     let e : q .result .defined ≡ true = not-false (q .result .defined) (b .before .before .before .if1 .left) in
     let a = b .update-answer .ensures in
-    rw (← d .before .set-of .ensures, ← q .ensures, ← b .before .before .offer .ensures, ← c .before .offered .ensures, e) (c .done .ensures _ (a .0) (a .1))
+    rw (← d .before .set-of .ensures, ← q .ensures, ← b .before .before .offer .ensures, ← c .before .offered .ensures, e) (done-held (c .done .ensures) _ (a .0) (a .1))
 
 pub initialize-update-spec : {M : Type 1} → statement M
 initialize-update-spec =

@@ -1,5 +1,6 @@
 use native.Mathlib.Omega.{arith}
 use borrow.Author.Needs.{needs}
+use Rattle.effects.proofs.Answers.{done-held}
 use Rattle.commands_spec.specs.Data.{datum}
 use Rattle.commands_spec.specs.GetData.{getDataOf}
 use Rattle.queries.proofs.getting.get_data.Statement.{statement}
@@ -24,7 +25,7 @@ returns c =
     let v = datum (a .head) (a .session .verified) (a .tag) in
     let d = c .before .before .before .datum .ensures in
     let b = c .before .before .measured .ensures v (d .0) (d .1) in
-    rw (← c .before .ended .ensures) (c .done .ensures _ b (omega arith))
+    rw (← c .before .ended .ensures) (done-held (c .done .ensures) _ b (omega arith))
 
 pub get-data-spec : {M : Type 1} → statement M
 get-data-spec =

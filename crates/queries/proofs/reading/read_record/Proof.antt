@@ -1,4 +1,5 @@
 use borrow.Author.Needs.{needs}
+use Rattle.effects.proofs.Answers.{done-held}
 use Rattle.commands_spec.specs.ReadRecord.{readRecordOf}
 use Rattle.queries.proofs.reading.read_record.Statement.{statement}
 use Rattle.queries.proofs.reading.read_record.Tie as tie
@@ -16,7 +17,7 @@ returns : tie.Need-returns
 unfolding readRecordOf
 returns c =
     let a = c .before .before .record-answer .ensures in
-    rw (← c .before .ended .ensures) (c .done .ensures _ (a .0) (a .1))
+    rw (← c .before .ended .ensures) (done-held (c .done .ensures) _ (a .0) (a .1))
 
 pub read-record-spec : {M : Type 1} → statement M
 read-record-spec = tie.close (tie.spec record-answer-requires ended-requires done-requires returns)

@@ -2,6 +2,7 @@ use mathlib.Core.Bool.{true, false}
 use mathlib.Core.Path.{_≡_}
 use borrow.Author.Needs.{needs}
 use borrow.Author.Tests.{not-true, not-false}
+use Rattle.effects.proofs.Answers.{done-held}
 use Rattle.commands_spec.specs.Select.{selectAnswer, selectOf}
 use Rattle.queries.proofs.selecting.select.Statement.{statement}
 use Rattle.queries.proofs.selecting.select.Tie as tie
@@ -45,7 +46,7 @@ returns-2 c =
     let q = d .before .is-ours in
     let e : q .result ≡ true = not-false (q .result) (d .if1 .left) in
     let a = b .select-answer .ensures in
-    rw (← q .ensures, e, ← c .before .reselected2 .ensures, ← b .before .before .administrative .ensures, ← b .before .operational .ensures) (c .done .ensures _ (a .0) (a .1))
+    rw (← q .ensures, e, ← c .before .reselected2 .ensures, ← b .before .before .administrative .ensures, ← b .before .operational .ensures) (done-held (c .done .ensures) _ (a .0) (a .1))
 
 pub select-spec : {M : Type 1} → statement M
 select-spec =

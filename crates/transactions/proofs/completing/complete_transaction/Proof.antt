@@ -3,6 +3,7 @@ use mathlib.Core.Path.{sym, _∙_}
 use Prim.Native.Nat.{_+_, _<_}
 use native.Mathlib.Omega.{arith}
 use borrow.Author.Tests.{eq-eqb, ne-eqb}
+use Rattle.effects.proofs.Answers.{done-held}
 use Rattle.octets.specs.Words.{word}
 use Rattle.commands_spec.specs.Outcomes.{done, decided}
 use Rattle.commands_spec.specs.Updates.{withState}
@@ -103,7 +104,7 @@ returns-2 c =
     let answer = h .purse .parameters .identifier ++ word (h .state .number + 1) ++ o .operational .result in
     let x = a .complete-answer .ensures in
     let y = m .with-mac .ensures answer (x .0) (x .1) in
-    let z = c .done .ensures (answer ++ k .answer-mac .result) (y .0) (y .1) in
+    let z = done-held (c .done .ensures) (answer ++ k .answer-mac .result) (y .0) (y .1) in
     rw (
       z,
       ← j .complete-judged .ensures,

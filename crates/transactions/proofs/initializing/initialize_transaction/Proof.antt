@@ -2,6 +2,7 @@ use mathlib.Core.List.{[], _++_}
 use mathlib.Core.Path.{_∙_}
 use borrow.Author.Tests.{eq-eqb, ne-eqb}
 use lib.Dec.{eqb}
+use Rattle.effects.proofs.Answers.{done-held}
 use Rattle.octets.specs.Choice.{pick}
 use Rattle.channel.specs.Channel.{bankSent}
 use Rattle.commands_spec.specs.Outcomes.{decided}
@@ -78,7 +79,7 @@ returns-2 c =
     let x = a .initialize-answer .ensures in
     let y = m .with-mac .ensures answer (x .0) (x .1) in
     let e = rw (b .word-at2 .ensures, b .before .before .word-at .ensures) at (j .initialize-judged .ensures) in
-    c .done .ensures (answer ++ k .answer-mac .result) (y .0) (y .1)
+    done-held (c .done .ensures) (answer ++ k .answer-mac .result) (y .0) (y .1)
     ∙ rw (← e, eq-eqb _ _ (f .if1 .left), t .answered .ensures, n .noted .ensures, k .answer-mac .ensures answer (x .0), d .dek-of .ensures, b .word-at2 .ensures)
 
 pub initialize-transaction-spec : {M : Type 1} → statement M

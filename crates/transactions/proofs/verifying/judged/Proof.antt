@@ -1,6 +1,7 @@
 use mathlib.Core.List.{[]}
 use mathlib.Core.Path.{refl, _∙_}
 use native.Mathlib.Omega.{arith}
+use Rattle.effects.proofs.Answers.{done-held}
 use Rattle.octets.proofs.Holding.{none, step}
 use Rattle.commands_spec.specs.Outcomes.{tried}
 use Rattle.commands_spec.specs.Updates.{withState, withTries}
@@ -33,7 +34,7 @@ returns c =
     let f = c .before .before .before in
     let t = f .before in
     let s = t .before in
-    c .done .ensures [] (c .before .empty .ensures) (omega arith)
+    done-held (c .done .ensures) [] (c .before .empty .ensures) (omega arith)
     ∙ rw (t .with-tries .ensures, s .with-state .ensures, s .before .tried .ensures, f .flagged .ensures, c .before .before .if1 .taken)
 
 empty-requires-2 : tie.Need-empty-requires-2
