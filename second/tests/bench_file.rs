@@ -6,7 +6,7 @@ use second::bench::file::{BenchFile, Call};
 use second::bench::line::Line;
 use second::bench::run::{self, Limited};
 use second::bench::stored;
-use support::{bytes, hex, installation};
+use support::{bytes, hex, installation, EXAMPLE};
 
 /// The lines of a file, one text.
 fn print(file: &[u8]) -> String {
@@ -30,13 +30,6 @@ fn start() -> Vec<u8> {
 fn command(digits: &str) -> Vec<u8> {
     record(3, &[bytes("FFFF 0000000000000000"), bytes(digits)].concat())
 }
-
-const EXAMPLE: &str = "\
-I 0
-S 0
-C 0 0000000000000000000000000000009000
-C 0 0200009000
-";
 
 #[test]
 fn worked_example() {

@@ -1,9 +1,13 @@
 //! The program run as a whole: its exit status, and what it says of wrong arguments.
 
+mod support;
+
 use std::fs;
 use std::io::Write;
 use std::path::{Path, PathBuf};
 use std::process::{Command, Output, Stdio};
+
+use support::EXAMPLE;
 
 fn run(arguments: &[&str], input: &str) -> Output {
     run_bytes(arguments, input.as_bytes())
@@ -102,13 +106,6 @@ fn write(folder: &Path, name: &str, bytes: &[u8]) -> String {
     fs::write(&path, bytes).expect("a file");
     path.to_string_lossy().into_owned()
 }
-
-const EXAMPLE: &str = "\
-I 0
-S 0
-C 0 0000000000000000000000000000009000
-C 0 0200009000
-";
 
 #[test]
 fn stored_files() {

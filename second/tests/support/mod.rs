@@ -10,6 +10,14 @@ use second::hex;
 use second::purse::card::{Card, KeySet, Record};
 use second::purse::Session;
 
+/// The lines of document 01's worked example.
+pub const EXAMPLE: &str = "\
+I 0
+S 0
+C 0 0000000000000000000000000000009000
+C 0 0200009000
+";
+
 pub fn bytes(digits: &str) -> Vec<u8> {
     hex::decode(digits.replace(' ', "").as_bytes()).expect("hex digits")
 }
