@@ -11,6 +11,7 @@ use lib.ListN.{length, getD, length-replicate, getD-replicate}
 use Rattle.octets.specs.Choice.{pick}
 use Rattle.octets.specs.Tests.{allTrue}
 use Rattle.octets.specs.Bytes.{AreBytes, zeros, byteAt, field, allZero}
+use Rattle.octets.proofs.Conditions.{and-both}
 use Rattle.octets.proofs.Rules.{and-left, and-right}
 use Rattle.octets.proofs.Parts.{length-field}
 use Rattle.octets.proofs.Ranges.{part-bytes, field-bytes, zeros-bytes}
@@ -93,16 +94,8 @@ void-at : (log : List (List ℕ)) → allVoid log ≡ true → ((k : ℕ) → k 
     → (k : ℕ) → getD log k void ≡ void
 unfolding allVoid
 void-at [] e l k = refl
-void-at (r ∷ log) e l zero = zero-zeros r (first (allZero r) (allVoid log) e) ∙ ap zeros (l 0 (omega arith))
-  where
-    first : (a b : Bool) → (a && b) ≡ true → a ≡ true
-    first true b q = refl
-    first false b q = absurd (false≢true q)
-void-at (r ∷ log) e l (suc k) = void-at log (second (allZero r) (allVoid log) e) (λ j q. l (suc j) (omega arith)) k
-  where
-    second : (a b : Bool) → (a && b) ≡ true → b ≡ true
-    second true b q = q
-    second false b q = absurd (false≢true q)
+void-at (r ∷ log) e l zero = zero-zeros r (and-both (allZero r) (allVoid log) e .0) ∙ ap zeros (l 0 (omega arith))
+void-at (r ∷ log) e l (suc k) = void-at log (and-both (allZero r) (allVoid log) e .1) (λ j q. l (suc j) (omega arith)) k
 
 other : (a b : Bool) → (a || b) ≡ true → a ≡ false → b ≡ true
 other true b e q = absurd (false≢true (sym q))

@@ -12,3 +12,4 @@ pub mod Installation
 pub mod Bounds
 pub mod Turns
 pub mod InPlace
+pub mod Pins

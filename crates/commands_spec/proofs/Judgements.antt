@@ -1,20 +1,23 @@
 -- Each command's row of rules: its word is 9000 or a refusal that keeps the card, and 9000 tells that every rule let pass. Assumes nothing.
-use mathlib.Core.Bool.{Bool, true, false, not, _&&_, _||_, false≢true}
-use mathlib.Core.Path.{_≡_, refl, sym}
-use Prim.Native.Nat.{ℕ, _<_}
+use mathlib.Core.Bool.{Bool, true, false, not, _&&_, _||_}
+use mathlib.Core.Path.{_≡_}
+use Prim.Native.Nat.{ℕ, _+_, _≤_, _<_}
 use native.Mathlib.Omega.{arith}
-use borrow.Author.Tests.{not-false, leb-false, eqb-false}
+use borrow.Author.Tests.{not-false, ltb-false, leb-false, eqb-true, eqb-false}
 use lib.Dec.{ltb, leb, eqb}
+use Rattle.octets.proofs.Rules.{passed}
+use Rattle.octets.proofs.Conditions.{neither}
 use Rattle.session.specs.Access.{ADMIN, CREDIT}
 use Rattle.commands_spec.specs.Words.{isOne, refusals}
 use Rattle.commands_spec.specs.PutKey.{putKeyStatus}
 use Rattle.commands_spec.specs.PinChange.{pinStatus}
 use Rattle.commands_spec.specs.StoreData.{storeStatus}
 use Rattle.commands_spec.specs.VerifyPin.{verifyStatus}
+use Rattle.commands_spec.specs.Transaction.{notAboveZero}
 use Rattle.commands_spec.specs.InitializeTransaction.{initializeStatus}
 use Rattle.commands_spec.specs.CompleteTransaction.{completeStatus}
 use Rattle.commands_spec.specs.PutData.{dataStatus}
-use Rattle.commands_spec.proofs.Steps.{Judged, rule, passed}
+use Rattle.commands_spec.proofs.Steps.{Judged, rule}
 
 -- ---- the words
 
@@ -49,10 +52,6 @@ data-judged personalized locked level good undercut = search rule depth 24
 
 -- ---- what 9000 tells
 
-pub neither : (a b : Bool) → (a || b) ≡ false → (a ≡ false) × (b ≡ false)
-neither true b e = absurd (false≢true (sym e))
-neither false b e = (refl, e)
-
 -- VERIFY PIN has a try left
 pub verify-tries : (personalized defined : Bool) (level tries : ℕ) → verifyStatus personalized defined level tries ≡ 0x9000 → 0 < tries
 unfolding verifyStatus
@@ -63,6 +62,49 @@ verify-tries personalized defined level tries e =
     let t = passed (eqb tries 0) 0x6983 0x9000 0x9000 (r .1) (λ z. omega arith) in
     let n = eqb-false tries 0 (t .0) in
     omega arith
+
+-- what INITIALIZE TRANSACTION found
+pub record Initializes (personalized lacking : Bool) (level need : ℕ) (rmac : Bool) (number maxnumber currency ours amount : ℕ) (debit : Bool)
+    (maxdebit balance maxbalance : ℕ) : Type 0 where
+  pub personal : personalized ≡ true
+  pub equipped : lacking ≡ false
+  pub access : need ≤ level
+  pub with-rmac : rmac ≡ true
+  pub room : number < maxnumber
+  pub same : currency ≡ ours
+  pub above : 0 < amount
+  pub signed : amount < 0x8000
+  pub debits : debit ≡ true → (amount ≤ maxdebit) × (amount ≤ balance)
+  pub credits : debit ≡ false → balance + amount ≤ maxbalance
+
+pub initialize-passed : (personalized lacking : Bool) (level need : ℕ) (rmac : Bool) (number maxnumber currency ours amount : ℕ) (debit : Bool) (maxdebit balance maxbalance : ℕ)
+    → initializeStatus personalized lacking level need rmac number maxnumber currency ours amount debit maxdebit balance maxbalance ≡ 0x9000
+    → Initializes personalized lacking level need rmac number maxnumber currency ours amount debit maxdebit balance maxbalance
+unfolding initializeStatus notAboveZero
+initialize-passed personalized lacking level need rmac number maxnumber currency ours amount debit maxdebit balance maxbalance e =
+    let a = passed (not personalized) 0x6985 _ 0x9000 e (λ z. omega arith) in
+    let b = passed lacking 0x6A81 _ 0x9000 (a .1) (λ z. omega arith) in
+    let c = passed (ltb level need) 0x6982 _ 0x9000 (b .1) (λ z. omega arith) in
+    let d = passed (not rmac) 0x6982 _ 0x9000 (c .1) (λ z. omega arith) in
+    let f = passed (leb maxnumber number) 0x9410 _ 0x9000 (d .1) (λ z. omega arith) in
+    let g = passed (not (eqb currency ours)) 0x9411 _ 0x9000 (f .1) (λ z. omega arith) in
+    let h = passed (eqb amount 0x0000 || leb 0x8000 amount) 0x9412 _ 0x9000 (g .1) (λ z. omega arith) in
+    let i = passed (debit && (ltb maxdebit amount || ltb balance amount)) 0x9413 _ 0x9000 (h .1) (λ z. omega arith) in
+    let j = passed (not debit && ltb maxbalance (balance + amount)) 0x9414 _ 0x9000 (i .1) (λ z. omega arith) in
+    let n = neither (eqb amount 0x0000) (leb 0x8000 amount) (h .0) in
+    let z = eqb-false amount 0x0000 (n .0) in
+    record {
+      personal = not-false personalized (a .0);
+      equipped = b .0;
+      access = ltb-false level need (c .0);
+      with-rmac = not-false rmac (d .0);
+      room = leb-false maxnumber number (f .0);
+      same = eqb-true currency ours (not-false (eqb currency ours) (g .0));
+      above = omega arith;
+      signed = leb-false 0x8000 amount (n .1);
+      debits = λ q. let m = neither (ltb maxdebit amount) (ltb balance amount) (rw q at (i .0)) in (ltb-false maxdebit amount (m .0), ltb-false balance amount (m .1));
+      credits = λ q. ltb-false maxbalance (balance + amount) (rw q at (j .0));
+    }
 
 -- what COMPLETE TRANSACTION found
 pub record Completes (personalized noted keeps : Bool) (number maxnumber : ℕ) : Type 0 where

@@ -9,6 +9,7 @@ use borrow.Author.Tests.{eqb-true}
 use lib.Dec.{eqb}
 use Rattle.octets.specs.Bytes.{byteAt, part}
 use Rattle.octets.specs.Words.{wordAt}
+use Rattle.octets.proofs.Rules.{pick-holds}
 use Rattle.card.specs.Card.{Card}
 use Rattle.session.specs.declared.Pending.{Pending}
 use Rattle.session.specs.declared.Session.{Session}
@@ -24,7 +25,6 @@ use Rattle.commands_spec.specs.VerifyPin.{judged}
 use Rattle.commands_spec.specs.InitializeTransaction.{noted}
 use Rattle.commands_spec.specs.CompleteTransaction.{isNoted, completeJudged, completeTransactionOf}
 use Rattle.commands_spec.specs.Respond.{named, respond}
-use Rattle.commands_spec.proofs.Steps.{pick-holds}
 use Rattle.commands_spec.proofs.Judgements.{complete-passed}
 use Rattle.commands_spec.proofs.Ways.{Way, refuses, mismatch, judges, answers, books, way, ownWay, not-refused}
 use Rattle.commands_spec.proofs.Sessions.{pendingAfter, ends-pending}

@@ -11,6 +11,7 @@ use Rattle.octets.specs.Bytes.{AreBytes, zeros, byteAt, part, same}
 use Rattle.octets.specs.Words.{wordAt}
 use Rattle.octets.proofs.Parts.{length-part}
 use Rattle.octets.proofs.Ranges.{part-bytes}
+use Rattle.octets.proofs.Rules.{pick-holds}
 use Rattle.card.specs.declared.head.Head.{Head}
 use Rattle.card.specs.Card.{Card, void}
 use Rattle.card.specs.Pin.{wellFormed}
@@ -50,7 +51,7 @@ use Rattle.commands_spec.specs.GetData.{getDataOf}
 use Rattle.commands_spec.specs.PutData.{undercuts, putDataStatus, putDataOf}
 use Rattle.commands_spec.specs.ReadRecord.{asked, readRecordOf}
 use Rattle.commands_spec.specs.Respond.{plainOf, signedOf, respond, cardAfter}
-use Rattle.commands_spec.proofs.Steps.{pick-holds, decided-either, header, macOf, Passed, Accepted, respond-holds}
+use Rattle.commands_spec.proofs.Steps.{decided-either, header, macOf, Passed, Accepted, respond-holds}
 use Rattle.commands_spec.proofs.Judgements.{complete-passed, pin-formed, store-passed, data-passed}
 use Rattle.commands_spec.proofs.Ways.{changes}
 use Rattle.commands_spec.proofs.Moves.{moved-balance}

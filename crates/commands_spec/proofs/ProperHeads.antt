@@ -9,8 +9,8 @@ use lib.Dec.{eqb}
 use Rattle.octets.specs.Tests.{allTrue}
 use Rattle.octets.specs.Bytes.{AreBytes, allZero}
 use Rattle.octets.specs.Words.{wordAt}
-use Rattle.octets.proofs.Rules.{or-left}
-use Rattle.octets.proofs.Conditions.{each}
+use Rattle.octets.proofs.Rules.{or-left, pick-holds}
+use Rattle.octets.proofs.Conditions.{each, and-both}
 use Rattle.card.specs.declared.head.KeySet.{KeySet}
 use Rattle.card.specs.declared.head.Head.{Head}
 use Rattle.card.specs.Card.{Card}
@@ -23,7 +23,6 @@ use Rattle.commands_spec.specs.Data.{valueOk, parameterSet, datumSet}
 use Rattle.commands_spec.specs.PutKey.{keySet}
 use Rattle.commands_spec.specs.PutData.{undercuts}
 use Rattle.commands_spec.specs.StoreData.{personalized}
-use Rattle.commands_spec.proofs.Steps.{pick-holds, and-both}
 use Rattle.commands_spec.proofs.Facts.{Facts, facts}
 use Rattle.commands_spec.proofs.ProperChanges.{Next, card-settled}
 use Rattle.commands_spec.proofs.Settings.{key-set-keys, datum-same, datum-settled, OnlyValues}

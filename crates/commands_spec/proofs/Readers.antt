@@ -6,6 +6,7 @@ use mathlib.Core.Path.{_≡_, refl}
 use Prim.Native.Nat.{ℕ, _-_}
 use lib.ListN.{getD, take}
 use Rattle.octets.specs.Bytes.{zeros, byteAt, part, same}
+use Rattle.octets.proofs.Rules.{pick-holds}
 use Rattle.card.specs.declared.head.Head.{Head}
 use Rattle.card.specs.Card.{Card, void}
 use Rattle.session.specs.declared.Pending.{Pending}
@@ -33,7 +34,7 @@ use Rattle.commands_spec.specs.InitializeTransaction.{initializeTransact
 use Rattle.commands_spec.specs.GetData.{getDataOf}
 use Rattle.commands_spec.specs.ReadRecord.{asked, readRecordOf}
 use Rattle.commands_spec.specs.Respond.{plainOf, signedOf, named, respond}
-use Rattle.commands_spec.proofs.Steps.{pick-holds, decided-either, header, macOf, respond-holds}
+use Rattle.commands_spec.proofs.Steps.{decided-either, header, macOf, respond-holds}
 use Rattle.commands_spec.proofs.Ways.{changes}
 
 -- those six, and what is no command

@@ -13,6 +13,7 @@ use Rattle.octets.specs.Bytes.{zeros, byteAt, part, same}
 use Rattle.octets.specs.Words.{wordAt}
 use Rattle.octets.proofs.Equality.{fails}
 use Rattle.octets.proofs.Numbers.{word-in-part}
+use Rattle.octets.proofs.Rules.{pick-holds}
 use Rattle.card.specs.declared.head.Head.{Head}
 use Rattle.card.specs.Card.{Card, void}
 use Rattle.session.specs.declared.Channel.{Channel}
@@ -47,7 +48,7 @@ use Rattle.commands_spec.specs.GetData.{getDataOf}
 use Rattle.commands_spec.specs.PutData.{putDataOf}
 use Rattle.commands_spec.specs.ReadRecord.{asked, readRecordOf}
 use Rattle.commands_spec.specs.Respond.{plainOf, signedOf, named, respond}
-use Rattle.commands_spec.proofs.Steps.{pick-holds, decided-holds, decided-either, early, header, macOf, Accepted, respond-holds}
+use Rattle.commands_spec.proofs.Steps.{decided-holds, decided-either, early, header, macOf, Accepted, respond-holds}
 use Rattle.commands_spec.proofs.Judgements.{pin-judged, verify-judged, initialize-judged}
 
 -- what is pending after a command with a status word: P1 is byte 3, the amount bytes 8 and 9

@@ -12,11 +12,12 @@ use lib.Seq.{getD-drop}
 use Rattle.octets.specs.Tests.{allTrue}
 use Rattle.octets.specs.Bytes.{AreBytes, byteAt, field, allZero}
 use Rattle.octets.specs.Words.{wordAt}
-use Rattle.octets.proofs.Conditions.{all-true}
+use Rattle.octets.proofs.Conditions.{all-true, and-both}
 use Rattle.octets.proofs.Parts.{byte-past, length-field, field-at}
 use Rattle.octets.proofs.Numbers.{word-at-below}
 use Rattle.octets.proofs.Ranges.{zeros-bytes, take-bytes, drop-bytes, field-bytes}
 use Rattle.octets.proofs.Equality.{zeros-zero, bytes-zero}
+use Rattle.octets.proofs.Rules.{pick-holds}
 use Rattle.card.specs.declared.head.Bank.{Bank}
 use Rattle.card.specs.declared.head.Agent.{Agent}
 use Rattle.card.specs.declared.head.Head.{Head}
@@ -27,7 +28,6 @@ use Rattle.commands_spec.specs.Updates.{withParameters, withMaxnumber}
 use Rattle.commands_spec.specs.Data.{maximumOk, agentLength, valueOk, bankOf, agentOf, parameterSet, datumSet}
 use Rattle.commands_spec.specs.PutKey.{keySet}
 use Rattle.commands_spec.specs.StoreData.{spoiled, acceptable, stored, storedAll}
-use Rattle.commands_spec.proofs.Steps.{pick-holds, and-both}
 use Rattle.commands_spec.proofs.Arrays.{field-bytes-of}
 use Rattle.commands_spec.proofs.ProperChanges.{Settled}
 

@@ -12,10 +12,12 @@ use lib.ListN.{length, getD, take, length-append, length-take}
 use Rattle.octets.specs.Bytes.{AreBytes, zeros, byteAt, part, same}
 use Rattle.octets.specs.Words.{word, wordAt}
 use Rattle.octets.specs.Buffers.{content}
+use Rattle.octets.proofs.Conditions.{and-both}
 use Rattle.octets.proofs.Parts.{length-part}
 use Rattle.octets.proofs.Numbers.{word-at-below}
 use Rattle.octets.proofs.Ranges.{none-bytes, append-bytes, part-bytes, zeros-bytes}
 use Rattle.octets.proofs.Holding.{content-holding}
+use Rattle.octets.proofs.Rules.{pick-holds}
 use Rattle.card.specs.declared.head.Head.{Head}
 use Rattle.card.specs.Card.{Card, recordSize, void}
 use Rattle.card.specs.Proper.{Proper}
@@ -53,7 +55,7 @@ use Rattle.commands_spec.specs.GetData.{getDataOf}
 use Rattle.commands_spec.specs.PutData.{putDataOf}
 use Rattle.commands_spec.specs.ReadRecord.{asked, readRecordOf}
 use Rattle.commands_spec.specs.Respond.{plainOf, signedOf, respond}
-use Rattle.commands_spec.proofs.Steps.{pick-holds, decided-either, and-both, header, macOf, Passed, respond-holds}
+use Rattle.commands_spec.proofs.Steps.{decided-either, header, macOf, Passed, respond-holds}
 use Rattle.commands_spec.proofs.Judgements.{complete-passed}
 use Rattle.commands_spec.proofs.Ways.{completedHead, completedAnswer}
 use Rattle.commands_spec.proofs.Words.{status-listed}

@@ -1,6 +1,6 @@
 -- The ways through steps 1 to 6 of document 01's order: what holds of each refusal there, and of each command past them, holds of
 -- what `respond` gives. Assumes nothing.
-use mathlib.Core.Bool.{Bool, true, false, not, _&&_, _||_, false≢true}
+use mathlib.Core.Bool.{Bool, true, false, not, _||_, false≢true}
 use mathlib.Core.List.{List, [], _∷_}
 use mathlib.Core.Path.{_≡_, refl, ap, _∙_}
 use Prim.Native.Nat.{ℕ, _+_, _-_, _<_, _≤_}
@@ -10,6 +10,8 @@ use lib.Dec.{ltb, eqb}
 use lib.ListN.{length, getD}
 use Rattle.octets.specs.Choice.{pick, refuse}
 use Rattle.octets.specs.Bytes.{byteAt, part, same}
+use Rattle.octets.proofs.Conditions.{and-both}
+use Rattle.octets.proofs.Rules.{passed, pick-holds}
 use Rattle.card.specs.declared.head.Head.{Head}
 use Rattle.card.specs.Card.{Card, void}
 use Rattle.session.specs.declared.Session.{Session}
@@ -35,11 +37,6 @@ use Rattle.commands_spec.specs.Respond.{plainOf, signedOf, authorized, n
 
 -- ---- choices
 
--- what holds of both branches holds of the choice
-pub pick-holds : {A : Type 0} (P : A → Type 0) (b : Bool) (x y : A) → (b ≡ true → P x) → (b ≡ false → P y) → P (pick b x y)
-pick-holds P true x y f g = f refl
-pick-holds P false x y f g = g refl
-
 -- a status word: 9000, or one of a list
 abbrev pub Judged : List ℕ → ℕ → Type 0
 Judged l w = isOne w (0x9000 ∷ l) ≡ true
@@ -64,16 +61,6 @@ decided-either P w h s o f g = pick-holds P (eqb w 0x9000) _ _ (λ e. f (eqb-tru
 pub rule : (l : List ℕ) (b : Bool) (w rest : ℕ) → Judged l w → Judged l rest → Judged l (refuse b w rest)
 rule l true w rest p q = p
 rule l false w rest p q = q
-
--- two tests that hold together
-pub and-both : (a b : Bool) → (a && b) ≡ true → (a ≡ true) × (b ≡ true)
-and-both true b e = (refl, e)
-and-both false b e = absurd (false≢true e)
-
--- a row that ends in x passed a rule of another word
-pub passed : (b : Bool) (w rest x : ℕ) → refuse b w rest ≡ x → (w ≡ x → ⊥) → (b ≡ false) × (rest ≡ x)
-passed true w rest x e n = absurd (n e)
-passed false w rest x e n = (refl, e)
 
 -- ---- the words of steps 1 to 5
 

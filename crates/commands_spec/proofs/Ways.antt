@@ -9,6 +9,7 @@ use borrow.Author.Tests.{eqb-true}
 use lib.Dec.{eqb}
 use lib.ListN.{length, getD, take}
 use Rattle.octets.specs.Bytes.{zeros, byteAt, part, same}
+use Rattle.octets.proofs.Rules.{pick-holds}
 use Rattle.card.specs.declared.head.Head.{Head}
 use Rattle.card.specs.Card.{Card, void}
 use Rattle.card.specs.Changes.{Change, changed}
@@ -45,7 +46,7 @@ use Rattle.commands_spec.specs.GetData.{getDataOf}
 use Rattle.commands_spec.specs.PutData.{putDataStatus, putDataOf}
 use Rattle.commands_spec.specs.ReadRecord.{asked, readRecordOf}
 use Rattle.commands_spec.specs.Respond.{plainOf, signedOf, named, respond}
-use Rattle.commands_spec.proofs.Steps.{Judged, early-refusal, pick-holds, decided-holds, header, macOf, Passed, Accepted, respond-holds}
+use Rattle.commands_spec.proofs.Steps.{Judged, early-refusal, decided-holds, header, macOf, Passed, Accepted, respond-holds}
 use Rattle.commands_spec.proofs.Judgements.{put-key-judged, pin-judged, store-judged, verify-judged, initialize-judged, complete-judged, data-judged, verify-tries}
 
 -- the changes that an outcome makes on a card, and the card that it leaves

@@ -17,3 +17,9 @@ pub mod GetData
 pub mod PutData
 pub mod ReadRecord
 pub mod Respond
+pub mod Sums
+pub mod Sent
+pub mod Allowed
+pub mod Values
+pub mod Shown
+pub mod Order

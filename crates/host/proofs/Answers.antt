@@ -11,12 +11,12 @@ use borrow.Author.Tests.{eq-eqb, ne-eqb}
 use lib.Dec.{ltb, eqb}
 use lib.ListN.{length}
 use Rattle.octets.specs.Bytes.{AreBytes, zeros}
+use Rattle.octets.proofs.Rules.{pick-holds}
 use Rattle.card.specs.Layout.{memorySize}
 use Rattle.session.specs.declared.Session.{Session}
 use Rattle.session.specs.Packing.{packed, unpacked}
 use Rattle.session.proofs.Sizes.{Sized}
 use Rattle.session.proofs.Reading.{reads-back, reads-sized, zeros-none}
-use Rattle.commands_spec.proofs.Steps.{pick-holds}
 use Rattle.purse_spec.specs.Calls.{Run, refusal}
 use Rattle.purse_spec.specs.Installation.{installation}
 use Rattle.purse_spec.specs.Startup.{startup}

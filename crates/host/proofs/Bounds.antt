@@ -9,12 +9,12 @@ use borrow.Author.Tests.{ltb-true}
 use lib.Dec.{ltb}
 use lib.ListN.{length}
 use Rattle.octets.specs.Bytes.{AreBytes}
+use Rattle.octets.proofs.Rules.{pick-holds}
 use Rattle.stores.specs.Stores.{Store, answers, reports}
 use Rattle.session.specs.declared.Session.{Session}
 use Rattle.session.specs.Session.{unselected}
 use Rattle.session.proofs.Sizes.{Sized, unselected-sized}
 use Rattle.commands_spec.specs.Respond.{respond}
-use Rattle.commands_spec.proofs.Steps.{pick-holds}
 use Rattle.commands_spec.proofs.Sizes.{reply-short}
 use Rattle.purse_spec.specs.Calls.{Run, refusal}
 use Rattle.purse_spec.specs.Installation.{installation}

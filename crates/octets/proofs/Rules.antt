@@ -60,6 +60,16 @@ pub or-right : (a b : Bool) → b ≡ true → (a || b) ≡ true
 or-right true b p = refl
 or-right false b p = p
 
+-- what holds of both branches holds of the choice
+pub pick-holds : {A : Type 0} (P : A → Type 0) (b : Bool) (x y : A) → (b ≡ true → P x) → (b ≡ false → P y) → P (pick b x y)
+pick-holds P true x y f g = f refl
+pick-holds P false x y f g = g refl
+
+-- a row that ends in x passed a rule of another word
+pub passed : (b : Bool) (w rest x : ℕ) → refuse b w rest ≡ x → (w ≡ x → ⊥) → (b ≡ false) × (rest ≡ x)
+passed true w rest x e n = absurd (n e)
+passed false w rest x e n = (refl, e)
+
 pub ruleset choices = (stop, go, first, second)
 
 pub ruleset bools = (true-is, false-is, and-rest, or-rest, not-yes, not-no, and-yes, and-left, and-right, or-no, or-left, or-right)

@@ -12,6 +12,7 @@ use lib.ListN.{length}
 use Rattle.octets.specs.Choice.{pick}
 use Rattle.octets.specs.Buffers.{content}
 use Rattle.octets.proofs.Pasting.{length-paste}
+use Rattle.octets.proofs.Rules.{pick-holds}
 use Rattle.stores.specs.Stores.{answers}
 use Rattle.stores.proofs.Plans.{leaves-length}
 use Rattle.stores.proofs.Limits.{not-seven-done, answers-done}
@@ -26,7 +27,6 @@ use Rattle.session.specs.declared.Session.{Session}
 use Rattle.session.specs.Session.{unselected}
 use Rattle.commands_spec.specs.declared.outcome.Outcome.{Outcome}
 use Rattle.commands_spec.specs.Respond.{respond}
-use Rattle.commands_spec.proofs.Steps.{pick-holds}
 use Rattle.purse_spec.specs.Calls.{Run, refusal}
 use Rattle.purse_spec.specs.Installation.{dataOk, fixedOf, keysOf, installation}
 use Rattle.purse_spec.specs.Startup.{startup}

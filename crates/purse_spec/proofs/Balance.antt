@@ -9,6 +9,7 @@ use Prim.Native.Nat.{ℕ, _+_, _≤_}
 use native.Mathlib.Omega.{arith}
 use lib.ListN.{length}
 use Rattle.octets.specs.Bytes.{AreBytes}
+use Rattle.octets.proofs.Rules.{pick-holds}
 use Rattle.stores.proofs.Limits.{not-seven-done, answers-done}
 use Rattle.card.specs.Card.{Card, freshHead, fresh}
 use Rattle.card.specs.Layout.{memorySize}
@@ -18,7 +19,6 @@ use Rattle.card.proofs.Installation.{fresh-proper}
 use Rattle.session.specs.Session.{unselected}
 use Rattle.session.proofs.Sizes.{unselected-sized}
 use Rattle.commands_spec.specs.CompleteTransaction.{isNoted}
-use Rattle.commands_spec.proofs.Steps.{pick-holds}
 use Rattle.commands_spec.proofs.Facts.{facts}
 use Rattle.purse_spec.specs.Calls.{Run, refusal}
 use Rattle.purse_spec.specs.Installation.{dataOk, fixedOf, keysOf, installation}

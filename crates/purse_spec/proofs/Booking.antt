@@ -13,7 +13,8 @@ use Rattle.octets.specs.Choice.{pick}
 use Rattle.octets.specs.Bytes.{byteAt, paste}
 use Rattle.octets.specs.Words.{wordAt}
 use Rattle.octets.specs.Buffers.{content}
-use Rattle.octets.proofs.Rules.{and-right}
+use Rattle.octets.proofs.Rules.{and-right, pick-holds}
+use Rattle.octets.proofs.Conditions.{and-both}
 use Rattle.stores.specs.Stores.{leaves}
 use Rattle.card.specs.Card.{Card}
 use Rattle.card.specs.Proper.{Proper}
@@ -31,7 +32,6 @@ use Rattle.commands_spec.specs.declared.outcome.Outcome.{Outcome}
 use Rattle.commands_spec.specs.InitializeTransaction.{noted}
 use Rattle.commands_spec.specs.CompleteTransaction.{isNoted, isDebit}
 use Rattle.commands_spec.specs.Respond.{named, respond, cardAfter}
-use Rattle.commands_spec.proofs.Steps.{pick-holds, and-both}
 use Rattle.commands_spec.proofs.Ways.{Kept}
 use Rattle.commands_spec.proofs.Words.{status-listed}
 use Rattle.commands_spec.proofs.Notes.{initialize-notes, others-note-nothing, complete-was-noted}

@@ -9,6 +9,7 @@ use borrow.Author.Tests.{ltb-true, ltb-false}
 use lib.Dec.{ltb}
 use lib.ListN.{length, getD}
 use Rattle.octets.specs.Bytes.{AreBytes}
+use Rattle.octets.proofs.Rules.{pick-holds}
 use Rattle.stores.specs.Stores.{Store, leaves, answers, reports}
 use Rattle.stores.specs.Limits.{leastLimit}
 use Rattle.stores.proofs.Plans.{leaves-length}
@@ -21,7 +22,6 @@ use Rattle.session.specs.declared.Session.{Session}
 use Rattle.session.proofs.Sizes.{Sized}
 use Rattle.commands_spec.specs.declared.outcome.Outcome.{Outcome}
 use Rattle.commands_spec.specs.Respond.{respond}
-use Rattle.commands_spec.proofs.Steps.{pick-holds}
 use Rattle.purse_spec.specs.Calls.{Run, refusal}
 use Rattle.purse_spec.specs.Installation.{fixedOf, keysOf, installation}
 use Rattle.purse_spec.specs.Startup.{startup}

@@ -11,11 +11,11 @@ use borrow.Author.Tests.{ltb-true, ltb-false}
 use lib.Dec.{ltb}
 use lib.ListN.{length}
 use Rattle.octets.specs.Bytes.{byteAt}
+use Rattle.octets.proofs.Rules.{pick-holds}
 use Rattle.card.specs.Card.{Card}
 use Rattle.card.specs.Reading.{readCard}
 use Rattle.session.specs.declared.Session.{Session}
 use Rattle.commands_spec.specs.Respond.{respond, cardAfter}
-use Rattle.commands_spec.proofs.Steps.{pick-holds}
 use Rattle.commands_spec.proofs.Sizes.{Sound}
 use Rattle.purse_spec.specs.Calls.{Run, refusal}
 use Rattle.purse_spec.specs.Commands.{outcomePlan, performed, command}

@@ -12,7 +12,7 @@ use lib.Dec.{leb, eqb}
 use lib.ListN.{length, drop, length-drop}
 use lib.Seq.{getD-drop}
 use Rattle.octets.specs.Bytes.{AreBytes, byteAt, part, field, allZero}
-use Rattle.octets.proofs.Conditions.{all-true}
+use Rattle.octets.proofs.Conditions.{all-true, and-both}
 use Rattle.octets.proofs.Equality.{bytes-zero}
 use Rattle.octets.proofs.Parts.{byte-past, length-part, length-field, field-at}
 use Rattle.octets.proofs.Ranges.{part-bytes}
@@ -26,7 +26,6 @@ use Rattle.card.specs.Changes.{installPlan, installCount}
 use Rattle.card.proofs.Bounds.{install-length}
 use Rattle.card.proofs.Installation.{Installable, install-cut, install-done}
 use Rattle.commands_spec.proofs.Arrays.{field-bytes-of}
-use Rattle.commands_spec.proofs.Steps.{and-both}
 use Rattle.purse_spec.specs.Calls.{Run, refusal}
 use Rattle.purse_spec.specs.Installation.{dataOk, fixedOf, keysOf, installation}
 use Rattle.purse_spec.proofs.Runs.{installation-holds, installation-runs}

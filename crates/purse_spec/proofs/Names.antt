@@ -8,14 +8,14 @@ use borrow.Author.Tests.{eqb-true, eq-eqb}
 use lib.Dec.{eqb}
 use Rattle.octets.specs.Choice.{pick}
 use Rattle.octets.specs.Bytes.{byteAt}
-use Rattle.octets.proofs.Rules.{and-yes}
+use Rattle.octets.proofs.Rules.{and-yes, pick-holds}
+use Rattle.octets.proofs.Conditions.{and-both}
 use Rattle.apdu.specs.declared.instructions.Plain.the-variants.{Select, InitializeUpdate, ExternalAuthenticate, VerifyPin, GetData, ReadRecord}
 use Rattle.apdu.specs.declared.instructions.Signed.the-variants.{PutKey, PinChange, StoreData, InitializeTransaction, CompleteTransaction, PutData}
 use Rattle.apdu.specs.declared.instructions.Instruction.{Instruction}
 use Rattle.apdu.specs.declared.instructions.Instruction.the-variants.{IsPlain, IsSigned, UnknownClass, UnknownInstruction}
 use Rattle.apdu.specs.Instructions.{of00, of80, of84, of94, instruction}
 use Rattle.commands_spec.specs.Respond.{named}
-use Rattle.commands_spec.proofs.Steps.{pick-holds, and-both}
 
 -- the instruction byte, 0 of a command of another class
 unfoldable pub ins94 : Instruction → ℕ

@@ -13,12 +13,12 @@ use Rattle.octets.specs.Words.{word, wordAt}
 use Rattle.octets.specs.Buffers.{content}
 use Rattle.octets.proofs.Pasting.{paste-front}
 use Rattle.octets.proofs.Numbers.{word-between}
+use Rattle.octets.proofs.Rules.{pick-holds}
 use Rattle.card.specs.Card.{Card}
 use Rattle.card.specs.Reading.{readCard}
 use Rattle.session.specs.declared.Session.{Session}
 use Rattle.commands_spec.specs.declared.outcome.Outcome.{Outcome}
 use Rattle.commands_spec.specs.Respond.{respond}
-use Rattle.commands_spec.proofs.Steps.{pick-holds}
 use Rattle.commands_spec.proofs.Words.{status-listed}
 use Rattle.commands_spec.proofs.Sizes.{Sound, reply-short}
 use Rattle.purse_spec.specs.Calls.{Run, refusal}
