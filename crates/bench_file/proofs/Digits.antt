@@ -1,5 +1,5 @@
 -- Bytes in hex, byte by byte, and how long lines are. Assumes nothing.
-use Prim.Native.Nat.{ℕ, _+_, _*_, _/_, _%_, _≤_, _<_}
+use Prim.Native.Nat.{ℕ, _+_, _*_, _≤_, _<_}
 use mathlib.Core.List.{List, [], _∷_, _++_, append-assoc, append-nil}
 use mathlib.Core.Path.{_≡_, refl, sym, ap, _∙_}
 use native.Mathlib.Numerals.{add-one}
@@ -11,11 +11,7 @@ use Rattle.octets.specs.Bytes.{byteAt}
 use Rattle.octets.specs.Buffers.{capacity, holding, appended}
 use Rattle.octets.proofs.Holding.{appended-holding}
 use Rattle.bench_file.specs.Records.{areaSize}
-use Rattle.bench_file.specs.Lines.{digit, hex, responseLine}
-
--- the two digits of a byte
-abbrev pub digits : ℕ → List ℕ
-digits x = digit (x / 16) ∷ digit (x % 16) ∷ []
+use Rattle.bench_file.specs.Lines.{digits, hex, responseLine}
 
 hex-append : (a b : List ℕ) → hex (a ++ b) ≡ hex a ++ hex b
 unfolding hex

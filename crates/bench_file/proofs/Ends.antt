@@ -23,9 +23,9 @@ pub empty-ends : (b : Bench) → linesFrom b [] ≡ []
 unfolding lastLine
 empty-ends b = lines-closing b [] (malformed-not-whole [] (Malformed.headerCut (omega arith)))
 
--- what is malformed prints X and ends
-pub malformed-ends : (b : Bench) (s : List ℕ) → Malformed s → 0 < length s → linesFrom b s ≡ malformedLine
-unfolding lastLine
+-- what is malformed prints X, a line feed, and nothing more
+pub malformed-ends : (b : Bench) (s : List ℕ) → Malformed s → 0 < length s → linesFrom b s ≡ 0x58 ∷ 0x0A ∷ []
+unfolding lastLine malformedLine
 malformed-ends b s m h =
     let n : length s ≡ 0 → ⊥ = λ e. omega arith in
     lines-closing b s (malformed-not-whole s m) ∙ rw (ne-eqb (length s) 0 n)

@@ -50,6 +50,7 @@ header-is s e =
 
 -- no kind has the data of a malformed record
 not-sized : (s : List ℕ) (w : Whole s) (h : Header s) → Malformed s → ⊥
+unfolding recordSize
 not-sized s w h (wrongMark f) = f (h .high) (h .low)
 not-sized s w h (wrongKind f g k) = by (h .kind)
   where
@@ -118,7 +119,7 @@ malformed-header s e = by (eqb (byteAt s 0) 0xB5) (eqb (byteAt s 1) 0xC3) (sizeO
     by true true true p q r f = absurd (false≢true (sym f))
 
 pub not-whole-malformed : (s : List ℕ) → whole s ≡ false → Malformed s
-unfolding whole
+unfolding whole recordSize
 not-whole-malformed s e = by (leb headerSize (length s)) (headerOk s) (leb (recordSize s) (length s)) refl refl refl e
   where
     by : (a b c : Bool) → leb headerSize (length s) ≡ a → headerOk s ≡ b → leb (recordSize s) (length s) ≡ c → (a && b && c) ≡ false → Malformed s

@@ -4,10 +4,14 @@ pub mod Lent
 pub mod Files
 pub mod Digits
 pub mod Answers
+pub mod Letters
+pub mod SessionAfter
 pub mod Ends
+pub mod DataSizes
 pub mod Stretching
 pub mod Turning
 pub mod Keeping
+pub mod Silence
 pub mod Cuts
 pub mod Rounds
 pub mod Balance
