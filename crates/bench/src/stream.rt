@@ -3,6 +3,7 @@ ghost use mathlib.Core.Bool.{true};
 ghost use mathlib.Core.Path.{_≡_};
 ghost use Prim.Native.Nat.{_≤_, _<_};
 ghost use lib.ListN.{length};
+ghost use Rattle.bench.specs.Going.{turnsAgain, fileGoesOn};
 use bench_file::Next;
 use session::Session;
 use session::unselected;
@@ -24,7 +25,7 @@ struct Kept {
 
 // Whether more of the bytes in hand can be used at once: the lines are written, and had no room before.
 fn again(next: Next, done: bool, used: usize) -> bool
-    ensures { λ r. ⌜ (r ≡ true → 0 < used) ⌝ }
+    ensures { λ r. ⌜ r ≡ turnsAgain next done used ⌝ }
 {
     if !done {
         return false;
@@ -33,21 +34,23 @@ fn again(next: Next, done: bool, used: usize) -> bool
         return false;
     }
     match next {
-        Next::Full => true,
+        Next::Full => true, // a line had no room
         Next::More => false,
         Next::Over => false,
     }
 }
 
 // Whether the file goes on: the lines are written, and X is not among them.
-fn goes_on(next: Next, done: bool) -> bool {
+fn goes_on(next: Next, done: bool) -> bool
+    ensures { λ r. ⌜ r ≡ fileGoesOn next done ⌝ }
+{
     if !done {
         return false;
     }
     match next {
         Next::Full => true,
         Next::More => true,
-        Next::Over => false,
+        Next::Over => false, // X is the last line
     }
 }
 

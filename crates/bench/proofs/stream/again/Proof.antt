@@ -1,13 +1,18 @@
-use mathlib.Core.Bool.{false≢true}
+use borrow.Author.Tests.{not-false, ne-eqb}
+use Rattle.octets.proofs.Rules.{rules-not}
+use Rattle.bench_file.specs.Pieces.{isOver, isFull}
+use Rattle.bench.specs.Going.{turnsAgain}
 use borrow.Author.Needs.{needs}
 use Rattle.bench.proofs.stream.again.Statement.{statement}
 use Rattle.bench.proofs.stream.again.Tie as tie
 
 returns : tie.Need-returns
-returns c = λ e. absurd (false≢true e)
+unfolding turnsAgain
+returns c = search rules-not depth 24
 
 returns-2 : tie.Need-returns-2
-returns-2 c = λ e. absurd (false≢true e)
+unfolding turnsAgain
+returns-2 c = search rules-not depth 24
 
 enum-told : tie.Need-enum-told
 enum-told c = search needs
@@ -19,13 +24,16 @@ enum-told-3 : tie.Need-enum-told-3
 enum-told-3 c = search needs
 
 returns-3 : tie.Need-returns-3
-returns-3 c = search needs
+unfolding turnsAgain isFull isOver
+returns-3 c = rw (c .enum-told .given .1, not-false (c .before .before .before .before .args .done) (c .before .before .before .if1 .left), ne-eqb _ _ (c .before .before .if2 .left))
 
 returns-4 : tie.Need-returns-4
-returns-4 c = search needs
+unfolding turnsAgain isFull isOver
+returns-4 c = rw (c .enum-told2 .given .1, not-false (c .before .before .before .before .args .done) (c .before .before .before .if1 .left), ne-eqb _ _ (c .before .before .if2 .left))
 
 returns-5 : tie.Need-returns-5
-returns-5 c = search needs
+unfolding turnsAgain isFull isOver
+returns-5 c = rw (c .enum-told3 .given .1, not-false (c .before .before .before .before .args .done) (c .before .before .before .if1 .left), ne-eqb _ _ (c .before .before .if2 .left))
 
 pub again-spec : {M : Type 1} → statement M
 again-spec =

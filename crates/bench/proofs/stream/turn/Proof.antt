@@ -1,6 +1,8 @@
+use mathlib.Core.Path.{sym, _∙_}
 use native.Mathlib.Omega.{arith}
 use Rattle.bench_file.proofs.Turning.{turn-within}
 use Rattle.bench.proofs.Hands.{used-within}
+use Rattle.bench.proofs.Going.{again-used}
 use borrow.Author.Needs.{needs}
 use Rattle.bench.proofs.stream.turn.Statement.{statement}
 use Rattle.bench.proofs.stream.turn.Tie as tie
@@ -51,7 +53,7 @@ returns : tie.Need-returns
 returns c =
     let t = c .before .before .before .before .before .before .before .before .before .before in
     let s = t .before .before .before .before .before .before .before in
-    (used-within (s .args .input .now) (s .args .used) (t .turn .result .used) (s .pre) (turn-within _ _ _ _ _ _ _ (t .turn .ensures) .0), λ e. let p = c .before .again .ensures e in omega arith)
+    (used-within (s .args .input .now) (s .args .used) (t .turn .result .used) (s .pre) (turn-within _ _ _ _ _ _ _ (t .turn .ensures) .0), λ e. let p = again-used _ _ _ (sym (c .before .again .ensures) ∙ e) in omega arith)
 
 pub turn-spec : {M : Type 1} → statement M
 turn-spec =
