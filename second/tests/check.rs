@@ -180,26 +180,26 @@ fn cut_verify_pin() {
     let before = tight(BEFORE);
     let right = verified("1234", 50);
     let cut = |run: &Run, left| run.ending(&["C 7", "S 0", &before, &tries(left)]);
-    assert_eq!([3, 2, 1].map(|left| cut(&right, left)), [Ok(()); 3]);
-    assert_eq!(cut(&right, 0), Err(1), "a lost try");
+    assert_eq!([5, 4, 3].map(|left| cut(&right, left)), [Ok(()); 3]);
+    assert_eq!(cut(&right, 2), Err(1), "a lost try");
     let wrong = verified("9999", 50);
-    assert_eq!([2, 1].map(|left| cut(&wrong, left)), [Ok(()); 2]);
-    assert_eq!(cut(&wrong, 3), Err(1), "a try too many");
-    assert_eq!(cut(&wrong, 0), Err(1), "a lost try");
+    assert_eq!([4, 3].map(|left| cut(&wrong, left)), [Ok(()); 2]);
+    assert_eq!(cut(&wrong, 5), Err(1), "a try too many");
+    assert_eq!(cut(&wrong, 2), Err(1), "a lost try");
     let at_zero = verified("1234", 0);
-    assert_eq!(cut(&at_zero, 2), Ok(()));
-    assert_eq!(cut(&at_zero, 1), Err(1), "limit 0 leaves memory untouched");
+    assert_eq!(cut(&at_zero, 4), Ok(()));
+    assert_eq!(cut(&at_zero, 3), Err(1), "limit 0 leaves memory untouched");
     assert_eq!(
-        wrong.ending(&["C 0 6300", "S 0", &before, &tries(1)]),
+        wrong.ending(&["C 0 6300", "S 0", &before, &tries(3)]),
         Ok(())
     );
     assert_eq!(
-        wrong.ending(&["C 0 6300", "S 0", &before, &tries(2)]),
+        wrong.ending(&["C 0 6300", "S 0", &before, &tries(4)]),
         Err(1)
     );
     let free = verified("9999", 0);
     assert_eq!(
-        free.ending(&["C 0 6300", "S 0", &before, &tries(2)]),
+        free.ending(&["C 0 6300", "S 0", &before, &tries(4)]),
         Err(4),
         "a free try"
     );

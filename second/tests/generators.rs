@@ -8,7 +8,7 @@ use second::bench::coverage::{Coverage, REACHABLE};
 use second::bench::file::{BenchFile, Call, NO_LIMIT};
 use second::bench::line::Line;
 use second::bench::run::{lines, Bench};
-use second::bench::stored::{cuts, purchase, sessions};
+use second::bench::stored::{cuts, purchase, records, sessions};
 use second::bench::{malformed, random};
 use second::purse::{Refusal, Verdict};
 
@@ -220,6 +220,20 @@ fn stored_cuts_try_every_limit() {
         stores > 12 * usize::from(cuts::MOST),
         "{stores} runs that store"
     );
+}
+
+/// Thousands of reads, each answered with a record: more lines than 64 KiB, and than 64 KiB of
+/// input make.
+#[test]
+fn stored_records_fill_buffers() {
+    let file = BenchFile::read(&records::file());
+    let lines = lines(&file, |_| ());
+    let reads: Vec<String> = lines.iter().map(ToString::to_string).collect();
+    let reads = &reads[reads.len() - usize::from(records::READS)..];
+    assert!(reads.iter().all(|line| line.len() == 4 + 2 * (24 + 2)));
+    assert!(reads.iter().all(|line| line.ends_with("9000")));
+    let commands = usize::from(records::READS) * 19;
+    assert!(commands > 65_536 && reads.concat().len() > 2 * commands);
 }
 
 /// 01's purchase: the log's newest amount reads FE A2.

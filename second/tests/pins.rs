@@ -2,6 +2,8 @@
 
 mod support;
 
+use second::bench::run::Reply;
+use second::bench::scenario::Scenario;
 use second::bench::stored::fixture::{change_pin, dek, unblock, verify};
 use second::purse::card::Set;
 use second::purse::channel::encipher;
@@ -9,7 +11,7 @@ use second::purse::instruction::Instruction;
 use second::purse::pin::is_block;
 use second::purse::session::Level;
 use second::terminal::get_data;
-use support::{bytes, hex, personalized, selected};
+use support::{bytes, hex, installation, line, personalized, selected};
 
 #[test]
 fn pin_blocks() {
@@ -37,7 +39,7 @@ fn pin_blocks() {
     }
 }
 
-/// Three wrong PINs block; the flag falls with the first; unblock fills the tries.
+/// Five wrong PINs block; the flag falls with the first; unblock fills the tries.
 #[test]
 fn pin_tries() {
     let mut scenario = selected(personalized());
@@ -48,21 +50,53 @@ fn pin_tries() {
         (word, scenario.card().tries, status)
     };
     let (set, cleared) = ("C 0 01F09000".to_string(), "C 0 01709000".to_string());
-    assert_eq!(try_pin("1234"), (Some(0x9000), 3, set.clone()));
-    assert_eq!(try_pin("1235"), (Some(0x6300), 2, cleared.clone()));
-    assert_eq!(try_pin("12345"), (Some(0x6300), 1, cleared.clone()));
-    assert_eq!(try_pin("1234"), (Some(0x9000), 3, set.clone()));
-    for left in [2, 1, 0] {
+    assert_eq!(try_pin("1234"), (Some(0x9000), 5, set.clone()));
+    assert_eq!(try_pin("1235"), (Some(0x6300), 4, cleared.clone()));
+    assert_eq!(try_pin("12345"), (Some(0x6300), 3, cleared.clone()));
+    assert_eq!(try_pin("1234"), (Some(0x9000), 5, set.clone()));
+    for left in [4, 3, 2, 1, 0] {
         assert_eq!(try_pin("0000"), (Some(0x6300), left, cleared.clone()));
     }
     assert_eq!(try_pin("1234"), (Some(0x6983), 0, cleared.clone()));
     scenario.open(Set::Admin, Level::Command);
     assert_eq!(unblock(&mut scenario).line.word(), Some(0x9000));
-    assert_eq!(scenario.card().tries, 3);
+    assert_eq!(scenario.card().tries, 5);
     verify(&mut scenario, "1234");
     assert!(scenario.bench.session.validated);
     unblock(&mut scenario);
     assert!(!scenario.bench.session.validated);
+}
+
+/// Tag 16 on a fresh card of each number of tries, and behind each command that moves the tries.
+#[test]
+fn tries_left() {
+    for most in 3..=15_u8 {
+        let mut data = installation();
+        data[9] = most;
+        let mut scenario = Scenario::new(1);
+        scenario.install(&data);
+        scenario.select();
+        let tries = |scenario: &mut Scenario| line(scenario, &get_data(0x16));
+        let left = |number: u8| format!("C 0 01{number:02X}9000");
+        assert_eq!(tries(&mut scenario), left(most), "fresh");
+        let mut card = personalized();
+        (card.most_tries, card.tries) = (most, most);
+        let mut scenario = selected(card);
+        scenario.open(Set::Admin, Level::Command);
+        let steps: [(&str, fn(&mut Scenario) -> Reply); 3] = [
+            ("right PIN", |scenario| verify(scenario, "1234")),
+            ("PIN CHANGE", |scenario| change_pin(scenario, "1234")),
+            ("UNBLOCK", unblock),
+        ];
+        for (name, step) in steps {
+            for wrong in 1..most {
+                verify(&mut scenario, "0000");
+                assert_eq!(tries(&mut scenario), left(most - wrong), "wrong PIN");
+            }
+            assert_eq!(step(&mut scenario).line.word(), Some(0x9000), "{name}");
+            assert_eq!(tries(&mut scenario), left(most), "{name}");
+        }
+    }
 }
 
 #[test]
@@ -78,7 +112,7 @@ fn change_of_pin() {
     );
     assert_eq!(
         (scenario.card().tries, scenario.bench.session.validated),
-        (3, false)
+        (5, false)
     );
     let data = encipher(&dek(&scenario), [0x24; 8]);
     let refused = scenario.signed(Instruction::PinChange, 0, 0, &data);

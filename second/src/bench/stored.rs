@@ -3,6 +3,7 @@
 pub mod cuts;
 pub mod fixture;
 pub mod purchase;
+pub mod records;
 pub mod sessions;
 
 use std::fs;
@@ -19,6 +20,7 @@ pub fn write(folder: &Path) -> io::Result<()> {
         ("purchase.bench", purchase::file()),
         ("sessions.bench", sessions::file()),
         ("cuts.bench", cuts::file()),
+        ("records.bench", records::file()),
     ];
     for (name, bytes) in files {
         let path = folder.join(name);

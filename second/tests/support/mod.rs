@@ -31,9 +31,9 @@ pub fn keys(first: u8) -> Vec<u8> {
     (first..first + 48).collect()
 }
 
-/// AID A0000001515001, log of 10, 3 tries, keys 40 to 6F.
+/// AID A0000001515001, log of 10, 5 tries, keys 40 to 6F.
 pub fn installation() -> Vec<u8> {
-    [bytes("07 A0000001515001 0A 03"), keys(0x40)].concat()
+    [bytes("07 A0000001515001 0A 05"), keys(0x40)].concat()
 }
 
 /// The fresh card of that data.

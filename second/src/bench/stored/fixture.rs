@@ -10,7 +10,7 @@ use crate::terminal::{pin_block, tlv, wrap_keys};
 
 pub const AID: [u8; 7] = [0xA0, 0x00, 0x00, 0x01, 0x51, 0x50, 0x01];
 pub const LOG: u8 = 10;
-pub const TRIES: u8 = 3;
+pub const TRIES: u8 = 5;
 pub const IDENTIFIER: [u8; 4] = [0x00, 0x01, 0x02, 0x03];
 pub const CURRENCY: [u8; 2] = [0x09, 0x78];
 pub const BANK: [u8; 16] = *b"BANK-0123456789-";

@@ -8,7 +8,7 @@ mod steps;
 use crate::bench::scenario::Scenario;
 
 pub fn file() -> Vec<u8> {
-    let parts: [fn(&mut Scenario); 15] = [
+    let parts: [fn(&mut Scenario); 16] = [
         steps::no_card,
         steps::malformed_commands,
         steps::classes_and_instructions,
@@ -19,6 +19,7 @@ pub fn file() -> Vec<u8> {
         life::channels,
         life::personalization,
         pins::pins,
+        pins::tries,
         life::access,
         life::transactions,
         life::put_data_rules,

@@ -1,5 +1,6 @@
-//! The PIN: changed, verified, blocked and unblocked.
+//! The PIN: changed, verified, blocked and unblocked; the tries left.
 
+use crate::bench::run::Reply;
 use crate::bench::scenario::Scenario;
 use crate::bench::stored::fixture::*;
 use crate::purse::card::Set;
@@ -31,6 +32,28 @@ pub fn pins(scenario: &mut Scenario) {
     scenario.send(&get_data(0x17));
 }
 
+/// The tries left, read on a fresh card and behind each command that moves them.
+pub fn tries(scenario: &mut Scenario) {
+    let tries_left = get_data(0x16);
+    fresh(scenario);
+    scenario.send(&tries_left);
+    personalized(scenario, 1_000, 500, 10);
+    scenario.send(&tries_left);
+    let steps: [fn(&mut Scenario) -> Reply; 3] = [
+        |scenario| verify(scenario, PIN),
+        |scenario| change_pin(scenario, PIN),
+        unblock,
+    ];
+    for step in steps {
+        for digits in ["4321", "0000"] {
+            verify(scenario, digits);
+            scenario.send(&tries_left);
+        }
+        step(scenario);
+        scenario.send(&tries_left);
+    }
+}
+
 /// Blocks that are none: each breaks one rule.
 fn wrong_blocks(scenario: &mut Scenario) {
     for block in [
@@ -57,8 +80,10 @@ fn wrong_pins(scenario: &mut Scenario) {
     }
     let ill = scenario.end().verify_pin([0; 8]);
     scenario.send(&ill);
-    for digits in ["4321", "4321", "4321", PIN] {
-        verify(scenario, digits);
+    for _ in 0..TRIES {
+        verify(scenario, "4321");
         scenario.send(&get_data(0x16));
     }
+    verify(scenario, PIN);
+    scenario.send(&get_data(0x16));
 }
