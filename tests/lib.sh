@@ -32,14 +32,22 @@ add() {
     fi
 }
 
-# Runs a command whose last line is 'N passed, M failed', and adds its counts: its name, then the command.
+# Runs a command whose last line is 'N passed, M failed', and adds its counts: its name, then the command. Where it names what failed,
+# as `finish` does, those names are taken.
 counted() {
-    local name=$1 status p=0 f=0
+    local name=$1 status names p=0 f=0
     shift
     "$@" 2>&1 | tee "$work/counted"
     status=${PIPESTATUS[0]}
     read -r p f < <(tail -n 1 "$work/counted" | sed -n 's/^\([0-9]*\) passed, \([0-9]*\) failed$/\1 \2/p') || true
-    add "$name" "${p:-0}" "${f:-0}" "$status"
+    mapfile -t names < <(sed -n 's/^failed: //p' "$work/counted")
+    if [ "${f:-0}" -gt 0 ] && [ "${#names[@]}" -eq "$f" ]; then
+        passed=$((passed + p))
+        failed=$((failed + f))
+        failures+=("${names[@]}")
+    else
+        add "$name" "${p:-0}" "${f:-0}" "$status"
+    fi
 }
 
 # Keeps files that a failed comparison was made of.
