@@ -18,7 +18,7 @@ use Rattle.bench.specs.Going.{turnsAgain, fileGoesOn}
 
 -- X ends it
 pub x-ends : (done : Bool) → fileGoesOn Over done ≡ false
-unfolding fileGoesOn isOver
+unfolding fileGoesOn isOver isFull
 x-ends true = refl
 x-ends false = refl
 
@@ -29,11 +29,11 @@ unwritten-ends next used = (refl, refl)
 
 -- any other turn lets it go on
 pub full-goes-on : fileGoesOn Full true ≡ true
-unfolding fileGoesOn isOver
+unfolding fileGoesOn isOver isFull
 full-goes-on = refl
 
 pub more-goes-on : fileGoesOn More true ≡ true
-unfolding fileGoesOn isOver
+unfolding fileGoesOn isOver isFull
 more-goes-on = refl
 
 -- ---- the bytes in hand
