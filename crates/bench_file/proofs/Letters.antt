@@ -8,7 +8,7 @@ use native.Mathlib.Nat.{add-zero, zero-add}
 use borrow.Author.Tests.{lt-ltb, eq-eqb, ne-eqb}
 use lib.ListN.{length, getD, take, length-append, List·getD-append}
 use lib.Seq.{getD-append-add}
-use Rattle.octets.specs.Bytes.{AreBytes, byteAt}
+use Rattle.octets.specs.Bytes.{byteAt}
 use Rattle.purse_spec.specs.Calls.{Run}
 use Rattle.purse_spec.specs.History.{Call, install, start, send}
 use Rattle.bench_file.specs.Lines.{Bench, ran, digit, hex, answerLine, responseLine, line}
@@ -69,16 +69,16 @@ module _ (x : List ℕ) where
       getD-append-add front (hex x ++ (0x0A ∷ [])) (2 * length x) 0
       ∙ rw (← length-hex x, ← add-zero (length (hex x))) (getD-append-add (hex x) (0x0A ∷ []) 0 0)
 
-  pub response-text : AreBytes x → ResponseText x (responseLine x)
+  pub response-text : ResponseText x (responseLine x)
   unfolding responseLine
-  response-text f =
+  response-text =
       record {
         size = rw (length-append, length-hex) (omega arith);
         letter = refl;
         space = refl;
         answer = refl;
         gap = refl;
-        high = λ i h. within (2 * i) (omega arith) ∙ hex-high x i h ∙ digit-is (byteAt x i / 16) (omega (arith, f i));
+        high = λ i h g. within (2 * i) (omega arith) ∙ hex-high x i h ∙ digit-is (byteAt x i / 16) (omega arith);
         low = λ i h. ap (λ (j : ℕ). byteAt (responseLine x) j) (next i) ∙ within (suc (2 * i)) (omega arith) ∙ hex-low x i h ∙ digit-is (byteAt x i % 16) (omega arith);
         feed = last;
       }
@@ -111,6 +111,6 @@ refusal-text b bytes random area limit h =
 -- of a command with answer 0: the response leads the response area
 pub command-text : (b : Bench) (bytes random area : List ℕ) (limit : ℕ)
     → let c = send bytes random area limit in
-    let x = take (ran c b .length) (ran c b .response) in ran c b .answer ≡ 0 → AreBytes x → ResponseText x (line c (ran c b))
+    let x = take (ran c b .length) (ran c b .response) in ran c b .answer ≡ 0 → ResponseText x (line c (ran c b))
 unfolding line
-command-text b bytes random area limit e f = rw (eq-eqb _ 0 e) (response-text _ f)
+command-text b bytes random area limit e = rw (eq-eqb _ 0 e) (response-text _)

@@ -22,6 +22,6 @@ pub record ResponseText (x l : List ℕ) : Type 0 where
   pub space : byteAt l 1 ≡ 0x20
   pub answer : byteAt l 2 ≡ 0x30
   pub gap : byteAt l 3 ≡ 0x20
-  pub high : (i : ℕ) → i < length x → byteAt l (4 + 2 * i) ≡ byteAt upperCase (byteAt x i / 16)
+  pub high : (i : ℕ) → i < length x → byteAt x i < 256 → byteAt l (4 + 2 * i) ≡ byteAt upperCase (byteAt x i / 16)
   pub low : (i : ℕ) → i < length x → byteAt l (5 + 2 * i) ≡ byteAt upperCase (byteAt x i % 16)
   pub feed : byteAt l (4 + 2 * length x) ≡ 0x0A
