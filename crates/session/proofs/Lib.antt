@@ -1,3 +1,6 @@
 pub mod Codes
 pub mod Sizes
 pub mod Reading
+pub mod Places
+pub mod Fields
+pub mod WhoMay

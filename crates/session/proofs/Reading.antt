@@ -74,6 +74,17 @@ after s =
     s .channel .enc ++ (s .channel .mac ++ (s .channel .cmac ++ (s .channel .rmac
     ++ (s .offer .enc ++ (s .offer .mac ++ (s .offer .expected ++ zeros 32))))))
 
+-- keys, chains and the offered cryptogram in the bytes l, and zeros after them
+pub record Keyed (s : Session) (l : List ℕ) : Type 0 where
+  pub enc : field l 8 16 ≡ s .channel .enc
+  pub mac : field l 24 16 ≡ s .channel .mac
+  pub cmac : field l 40 8 ≡ s .channel .cmac
+  pub rmac : field l 48 8 ≡ s .channel .rmac
+  pub offer-enc : field l 56 16 ≡ s .offer .enc
+  pub offer-mac : field l 72 16 ≡ s .offer .mac
+  pub expected : field l 88 8 ≡ s .offer .expected
+  pub rest : drop 96 l ≡ zeros 32
+
 module _ {s : Session} (h : Sized s) where
   heading-array : Array 8 (heading s)
   heading-array =
@@ -97,13 +108,12 @@ module _ {s : Session} (h : Sized s) where
       joined (joined (joined (joined (joined (joined (joined (joined heading-array (c .enc)) (c .mac)) (c .cmac)) (c .rmac)) (o .enc)) (o .mac)) (o .expected))
       (zeros-array 32)
 
-  decoded-packed : decoded (packed s) ≡ s
-  unfolding decoded decodedChannel decodedOffer
-  decoded-packed =
-      let l = packed s in
+  -- keys and chains stand at their places
+  pub keyed : Keyed s (packed s)
+  keyed =
       let c = h .channel in
       let o = h .offer in
-      let p0 : Stands l 0 (heading s) (after s) = record { is = split } in
+      let p0 : Stands (packed s) 0 (heading s) (after s) = record { is = split } in
       let p1 = next 8 p0 refl in
       let p2 = next 16 p1 (c .enc .long) in
       let p3 = next 16 p2 (c .mac .long) in
@@ -111,14 +121,22 @@ module _ {s : Session} (h : Sized s) where
       let p5 = next 8 p4 (c .rmac .long) in
       let p6 = next 16 p5 (o .enc .long) in
       let p7 = next 16 p6 (o .mac .long) in
-      let e1 : field l 8 16 ≡ s .channel .enc = read 16 p1 (c .enc .long) in
-      let e2 : field l 24 16 ≡ s .channel .mac = read 16 p2 (c .mac .long) in
-      let e3 : field l 40 8 ≡ s .channel .cmac = read 8 p3 (c .cmac .long) in
-      let e4 : field l 48 8 ≡ s .channel .rmac = read 8 p4 (c .rmac .long) in
-      let e5 : field l 56 16 ≡ s .offer .enc = read 16 p5 (o .enc .long) in
-      let e6 : field l 72 16 ≡ s .offer .mac = read 16 p6 (o .mac .long) in
-      let e7 : field l 88 8 ≡ s .offer .expected = read 8 p7 (o .expected .long) in
-      rw (e1, e2, e3, e4, e5, e6, e7, selected-packed s, verified-packed s, level-packed s, pending-packed s)
+      record {
+        enc = read 16 p1 (c .enc .long);
+        mac = read 16 p2 (c .mac .long);
+        cmac = read 8 p3 (c .cmac .long);
+        rmac = read 8 p4 (c .rmac .long);
+        offer-enc = read 16 p5 (o .enc .long);
+        offer-mac = read 16 p6 (o .mac .long);
+        expected = read 8 p7 (o .expected .long);
+        rest = sym (drop-drop 8 88 (packed s)) ∙ ap (drop 8) (p7 .is) ∙ drop-at (s .offer .expected) (zeros 32) 8 (o .expected .long);
+      }
+
+  decoded-packed : decoded (packed s) ≡ s
+  unfolding decoded decodedChannel decodedOffer
+  decoded-packed =
+      let k = keyed in
+      rw (k .enc, k .mac, k .cmac, k .rmac, k .offer-enc, k .offer-mac, k .expected, selected-packed s, verified-packed s, level-packed s, pending-packed s)
 
   -- "every session handed out reads back as itself"
   pub reads-back : unpacked (packed s) ≡ some s
