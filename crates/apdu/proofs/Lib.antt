@@ -1,1 +1,4 @@
 pub mod Within
+pub mod Table
+pub mod Shapes
+pub mod Order
