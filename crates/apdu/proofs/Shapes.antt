@@ -7,7 +7,7 @@ use mathlib.Core.Path.{_≡_, refl, sym, ap, subst, _∙_}
 use Prim.Native.Nat.{ℕ, suc, _+_, _-_, _≤_, _<_}
 use native.Mathlib.Omega.{arith}
 use native.Mathlib.Decide.{decLe}
-use borrow.Author.Tests.{ltb-true, ltb-false, eqb-true, eqb-false, le-ltb, eq-eqb, ne-eqb}
+use borrow.Author.Tests.{ltb-true, ltb-false, eqb-true, eqb-false, lt-ltb, le-ltb, eq-eqb, ne-eqb}
 use lib.Dec.{ltb, eqb}
 use lib.ListN.{length, take, drop, length-append, length-drop, take-append-drop}
 use lib.Seq.{length-take-le}
@@ -29,7 +29,7 @@ pub data Shape (c : List ℕ) (a : Apdu) : Type 0 where
 
 -- ---- bytes of such a shape are that command
 
--- by the number of bytes
+-- by the number of bytes: with Lc
 pub parsed-full : (c : List ℕ) → 1 ≤ byteAt c 4 → 5 + byteAt c 4 ≤ length c → length c ≤ 6 + byteAt c 4 → parsed c ≡ headed c (byteAt c 4)
 unfolding parsed
 parsed-full c h k l = rw (le-ltb (length c) 4 (omega arith), le-ltb (length c) 6 (omega arith), ne-eqb (byteAt c 4) 0 (λ e. omega arith), fits)
@@ -41,10 +41,18 @@ parsed-full c h k l = rw (le-ltb (length c) 4 (omega arith), le-ltb (length c) 6
           | no e ↦ or-right (eqb (length c) (5 + byteAt c 4)) (eqb (length c) (6 + byteAt c 4)) (eq-eqb (length c) (6 + byteAt c 4) (omega arith))
         ]
 
-shaped : (c : List ℕ) (a : Apdu) → Shape c a → parsed c ≡ Command a
+-- and without
+pub parsed-bare : (c : List ℕ) → 4 ≤ length c → length c ≤ 5 → parsed c ≡ headed c 0
 unfolding parsed
-shaped c a (four l e) = rw e (ap (λ (n : ℕ). Command (record { cla = a .cla; ins = a .ins; p1 = a .p1; p2 = a .p2; lc = n })) (sym l))
-shaped c a (five l le e) = rw e (ap (λ (n : ℕ). Command (record { cla = a .cla; ins = a .ins; p1 = a .p1; p2 = a .p2; lc = n })) (sym l))
+parsed-bare c h k = rw (le-ltb (length c) 4 h, lt-ltb (length c) 6 (omega arith))
+
+shaped : (c : List ℕ) (a : Apdu) → Shape c a → parsed c ≡ Command a
+shaped c a (four l e) =
+    let n = ap length e in
+    parsed-bare c (omega arith) (omega arith) ∙ rw e (ap (λ (n : ℕ). Command (record { cla = a .cla; ins = a .ins; p1 = a .p1; p2 = a .p2; lc = n })) (sym l))
+shaped c a (five l le e) =
+    let n = ap length e in
+    parsed-bare c (omega arith) (omega arith) ∙ rw e (ap (λ (n : ℕ). Command (record { cla = a .cla; ins = a .ins; p1 = a .p1; p2 = a .p2; lc = n })) (sym l))
 shaped c a (full body le h l m e) =
     let n = ap length e in
     let k = length-append body le in

@@ -5,6 +5,8 @@ pub mod Ways
 pub mod Words
 pub mod Refusals
 pub mod Sessions
+pub mod Past
+pub mod Channel
 pub mod Notes
 pub mod Moves
 pub mod Cuts
