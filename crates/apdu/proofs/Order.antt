@@ -20,7 +20,7 @@ pub data Decides (Selected Parameters Recorded Long : Type 0) : ℕ → Type 0 w
   unselected : (Selected → ⊥) → Decides Selected Parameters Recorded Long 0x6985
   parameters : Selected → (Parameters → ⊥) → Decides Selected Parameters Recorded Long 0x6A86
   recorded : Selected → Parameters → (Recorded → ⊥) → Decides Selected Parameters Recorded Long 0x6A83
-  length : Selected → Parameters → Recorded → (Long → ⊥) → Decides Selected Parameters Recorded Long 0x6700
+  long : Selected → Parameters → Recorded → (Long → ⊥) → Decides Selected Parameters Recorded Long 0x6700
   passed : Selected → Parameters → Recorded → Long → Decides Selected Parameters Recorded Long 0x9000
 
 -- all four hold
@@ -36,14 +36,14 @@ module _ {S P R L : Type 0} where
   fits (unselected n) e = absurd (omega arith)
   fits (parameters s n) e = absurd (omega arith)
   fits (recorded s p n) e = absurd (omega arith)
-  fits (length s p r n) e = absurd (omega arith)
+  fits (long s p r n) e = absurd (omega arith)
   fits (passed s p r l) e = record { selected = s; parameters = p; recorded = r; length = l }
 
   pub goes-on : {w : ℕ} → Decides S P R L w → Fits S P R L → w ≡ 0x9000
   goes-on (unselected n) f = absurd (n (f .selected))
   goes-on (parameters s n) f = absurd (n (f .parameters))
   goes-on (recorded s p n) f = absurd (n (f .recorded))
-  goes-on (length s p r n) f = absurd (n (f .length))
+  goes-on (long s p r n) f = absurd (n (f .length))
   goes-on (passed s p r l) f = refl
 
   decides : (a b c d : Bool) → (a ≡ true) ↔ S → (b ≡ true) ↔ P → (c ≡ true) ↔ R → (d ≡ true) ↔ L → Decides S P R L (earlyStatus a b c d)
@@ -51,7 +51,7 @@ module _ {S P R L : Type 0} where
   decides false b c d s p r l = unselected (λ x. false≢true (s .1 x))
   decides true false c d s p r l = parameters (s .0 refl) (λ x. false≢true (p .1 x))
   decides true true false d s p r l = recorded (s .0 refl) (p .0 refl) (λ x. false≢true (r .1 x))
-  decides true true true false s p r l = length (s .0 refl) (p .0 refl) (r .0 refl) (λ x. false≢true (l .1 x))
+  decides true true true false s p r l = long (s .0 refl) (p .0 refl) (r .0 refl) (λ x. false≢true (l .1 x))
   decides true true true true s p r l = passed (s .0 refl) (p .0 refl) (r .0 refl) (l .0 refl)
 
 -- "SELECT excepted"

@@ -44,6 +44,7 @@ use Rattle.apdu.specs.Lengths.{macSize}
 use Rattle.apdu.proofs.Table.{instructions}
 use Rattle.commands_spec.specs.declared.outcome.Outcome.{Outcome}
 use Rattle.commands_spec.specs.Outcomes.{refused, done, decided}
+use Rattle.commands_spec.specs.Words.{isOne}
 use Rattle.commands_spec.specs.Updates.{keysOf}
 use Rattle.commands_spec.specs.Select.{selectOf}
 use Rattle.commands_spec.specs.InitializeUpdate.{initializeUpdateOf}
@@ -58,8 +59,8 @@ use Rattle.commands_spec.specs.GetData.{getDataOf}
 use Rattle.commands_spec.specs.PutData.{putDataOf}
 use Rattle.commands_spec.specs.ReadRecord.{asked, readRecordOf}
 use Rattle.commands_spec.specs.Respond.{plainOf, signedOf, authorized, respond}
-use Rattle.commands_spec.proofs.Steps.{pick-holds, decided-either, header}
-use Rattle.commands_spec.proofs.Past.{Formed, Selects, Authenticates, Signs, Untouched, PlainPast, I, one-plain, plain-or-signed, select-names, authenticate-names, sign-names, signed-long, shape-lc, shape-formed, past-holds}
+use Rattle.commands_spec.proofs.Steps.{early, pick-holds, decided-either, header}
+use Rattle.commands_spec.proofs.ByBytes.{Formed, Selects, Authenticates, Signs, Untouched, PlainPast, I, one-plain, plain-or-signed, select-names, authenticate-names, sign-names, signed-long, shape-lc, shape-formed, past-holds}
 
 -- ---- the law
 
@@ -308,6 +309,31 @@ module _ (c : Card) (s : Session) (command random : List ℕ) where
         signs = λ g y. plain-or-signed (I s command) p g e (sign-names s command g y);
       }
 
+  -- the bytes of the two that touch it
+  select-bytes : (lc : ℕ) → PlainPast c s command Select lc → Selects command
+  select-bytes lc f =
+      let k = instructions (IsPlain Select) (byteAt command 0) (byteAt command 1) .0 (f .names) in
+      let p = f .fit .parameters in
+      record { cla = k .0; ins = k .1; p1 = p .0; p2 = p .1; formed = shape-formed s command lc (f .formed) }
+
+  authenticate-bytes : (lc : ℕ) → PlainPast c s command ExternalAuthenticate lc → (set : Set) → s .pending ≡ Update set → Authenticates s command set
+  authenticate-bytes lc f set e =
+      let l : lc ≡ 16 = f .fit .length in
+      let k = instructions (IsPlain ExternalAuthenticate) (byteAt command 0) (byteAt command 1) .0 (f .names) in
+      let p = f .fit .parameters in
+      let q = shape-lc s command lc (f .formed) (omega arith) in
+      record {
+        cla = k .0;
+        ins = k .1;
+        p1 = p .0;
+        p2 = p .1;
+        lc = q .0 ∙ l;
+        least = omega (arith, q .1);
+        most = omega (arith, q .2);
+        selected = f .fit .selected;
+        pending = e;
+      }
+
   -- SELECT: both answers
   reselects : Selects command → (o : Outcome) → Reselected s o → A o
   reselects x o h =
@@ -323,9 +349,7 @@ module _ (c : Card) (s : Session) (command random : List ℕ) where
   selects : (lc : ℕ) → PlainPast c s command Select lc → A (selectOf H s (dataOf command lc))
   unfolding selectOf done refused reselected
   selects lc f =
-      let k = instructions (IsPlain Select) (byteAt command 0) (byteAt command 1) .0 (f .names) in
-      let p = f .fit .parameters in
-      let x : Selects command = record { cla = k .0; ins = k .1; p1 = p .0; p2 = p .1; formed = shape-formed s command lc (f .formed) } in
+      let x = select-bytes lc f in
       pick-holds A (same (dataOf command lc) (take (H .fixed .aidlen) (H .fixed .aid))) _ _
       (λ t. reselects x _ (record { selected = inl (refl, refl); flag = refl; channel = refl; pending = refl }))
       (λ t. reselects x _ (record { selected = inr (refl, refl); flag = refl; channel = refl; pending = refl }))
@@ -381,22 +405,7 @@ module _ (c : Card) (s : Session) (command random : List ℕ) where
   unfolding externalAuthenticateOf refused ended
   authenticates lc f (Update set) e =
       let l : lc ≡ 16 = f .fit .length in
-      let k = instructions (IsPlain ExternalAuthenticate) (byteAt command 0) (byteAt command 1) .0 (f .names) in
-      let p = f .fit .parameters in
-      let q = shape-lc s command lc (f .formed) (omega arith) in
-      rw l
-      (judged-update set
-      (record {
-        cla = k .0;
-        ins = k .1;
-        p1 = p .0;
-        p2 = p .1;
-        lc = q .0 ∙ l;
-        least = omega (arith, q .1);
-        most = omega (arith, q .2);
-        selected = f .fit .selected;
-        pending = e;
-      }))
+      rw l (judged-update set (authenticate-bytes lc f set e))
   authenticates lc f Nothing e = kept _ (unoffered lc f (λ set h. let z : _≡_ {A = ℕ} 0 1 = cc in omega arith)) refl
   authenticates lc f (Debiting n) e = kept _ (unoffered lc f (λ set h. let z : _≡_ {A = ℕ} 0 1 = cc in omega arith)) refl
   authenticates lc f (Crediting n) e = kept _ (unoffered lc f (λ set h. let z : _≡_ {A = ℕ} 0 1 = cc in omega arith)) refl
@@ -423,4 +432,84 @@ module _ (c : Card) (s : Session) (command random : List ℕ) where
   -- for every card, session, command and random bytes
   pub channel-after : ChannelAfter s command (respond c s command random)
   unfolding refused ended
-  channel-after = past-holds c s command random A (λ w u. kept _ u refl) plain-after (signed-after c s command)
+  channel-after = past-holds c s command random A (λ w j u. kept _ u refl) plain-after (signed-after c s command)
+
+-- ---- told by the status word
+
+-- 9000 and 6A82 of a SELECT, 9000, 6300 and 6982 of an EXTERNAL AUTHENTICATE are answered past steps 1 to 5, the latter behind its
+-- INITIALIZE UPDATE; so with these words, and with no other of these two commands, the channel is none or the offered one
+pub record ByStatus (s : Session) (command : List ℕ) (o : Outcome) : Type 0 where
+  pub selects : byteAt command 0 ≡ 0x00 → byteAt command 1 ≡ 0xA4 → (o .status ≡ 0x9000) ⊎ (o .status ≡ 0x6A82) → Selects command
+  pub authenticates : byteAt command 0 ≡ 0x84 → byteAt command 1 ≡ 0x82 → (o .status ≡ 0x9000) ⊎ (o .status ≡ 0x6300) ⊎ (o .status ≡ 0x6982)
+      → (set : Set) × Authenticates s command set
+
+-- a word of steps 1 to 5 is none of these
+no-word : (w x : ℕ) → isOne w early ≡ true → isOne x early ≡ false → w ≡ x → ⊥
+no-word w x j n e = false≢true (sym n ∙ ap (λ (y : ℕ). isOne y early) (sym e) ∙ j)
+
+select-early : (w : ℕ) → isOne w early ≡ true → (w ≡ 0x9000) ⊎ (w ≡ 0x6A82) → ⊥
+unfolding isOne
+select-early w j (inl e) = no-word w 0x9000 j refl e
+select-early w j (inr e) = no-word w 0x6A82 j refl e
+
+authenticate-early : (w : ℕ) → isOne w early ≡ true → (w ≡ 0x9000) ⊎ (w ≡ 0x6300) ⊎ (w ≡ 0x6982) → ⊥
+unfolding isOne
+authenticate-early w j (inl e) = no-word w 0x9000 j refl e
+authenticate-early w j (inr (inl e)) = no-word w 0x6300 j refl e
+authenticate-early w j (inr (inr e)) = no-word w 0x6982 j refl e
+
+module _ (c : Card) (s : Session) (command random : List ℕ) where
+  abbrev B : Outcome → Type 0
+  B o = ByStatus s command o
+
+  -- a refusal of steps 1 to 5, and EXTERNAL AUTHENTICATE's 6985
+  early-told : (t : Session) (w : ℕ) → isOne w early ≡ true → B (refused (c .head) t w)
+  unfolding refused
+  early-told t w j = record { selects = λ x y e. absurd (select-early w j e); authenticates = λ x y e. absurd (authenticate-early w j e) }
+
+  -- any other command
+  elsewhere : (o : Outcome) → (I s command ≡ IsPlain Select → ⊥) → (I s command ≡ IsPlain ExternalAuthenticate → ⊥) → B o
+  elsewhere o a b =
+      record {
+        selects = λ x y e. absurd (a (instructions (IsPlain Select) (byteAt command 0) (byteAt command 1) .1 (x, y)));
+        authenticates = λ x y e. absurd (b (instructions (IsPlain ExternalAuthenticate) (byteAt command 0) (byteAt command 1) .1 (x, y)));
+      }
+
+  another : (p : Plain) → I s command ≡ IsPlain p → (p ≡ Select → ⊥) → (p ≡ ExternalAuthenticate → ⊥) → (o : Outcome) → B o
+  another p i n q o = elsewhere o (λ e. n (one-plain (I s command) p Select i e)) (λ e. q (one-plain (I s command) p ExternalAuthenticate i e))
+
+  authenticate-told : (lc : ℕ) → PlainPast c s command ExternalAuthenticate lc → (pending : Pending) → s .pending ≡ pending
+      → B (externalAuthenticateOf pending (c .head) s (byteAt command 2) command (dataOf command lc))
+  unfolding externalAuthenticateOf isOne
+  authenticate-told lc f (Update set) e =
+      record {
+        selects =
+            λ x y h. absurd (two-plain (one-plain (I s command) Select ExternalAuthenticate (instructions (IsPlain Select) (byteAt command 0) (byteAt command 1) .1 (x, y)) (f .names)));
+        authenticates = λ x y h. (set, authenticate-bytes c s command random lc f set e);
+      }
+  authenticate-told lc f Nothing e = early-told (ended s) 0x6985 refl
+  authenticate-told lc f (Debiting n) e = early-told (ended s) 0x6985 refl
+  authenticate-told lc f (Crediting n) e = early-told (ended s) 0x6985 refl
+
+  plain-told : (p : Plain) (lc : ℕ) → PlainPast c s command p lc
+      → B (plainOf p (c .head) (getD (c .log) (asked command) void) s (header command lc) command (dataOf command lc) random)
+  unfolding plainOf
+  plain-told Select lc f =
+      record {
+        selects = λ x y e. select-bytes c s command random lc f;
+        authenticates =
+            λ x y h. absurd (two-plain (one-plain (I s command) Select ExternalAuthenticate (f .names) (instructions (IsPlain ExternalAuthenticate) (byteAt command 0) (byteAt command 1) .1 (x, y))));
+      }
+  plain-told InitializeUpdate lc f = another InitializeUpdate (f .names) (λ e. let z : _≡_ {A = ℕ} 0 1 = cc in omega arith) (λ e. let z : _≡_ {A = ℕ} 0 1 = cc in omega arith) _
+  plain-told ExternalAuthenticate lc f = authenticate-told lc f (s .pending) refl
+  plain-told VerifyPin lc f = another VerifyPin (f .names) (λ e. let z : _≡_ {A = ℕ} 0 1 = cc in omega arith) (λ e. let z : _≡_ {A = ℕ} 0 1 = cc in omega arith) _
+  plain-told GetData lc f = another GetData (f .names) (λ e. let z : _≡_ {A = ℕ} 0 1 = cc in omega arith) (λ e. let z : _≡_ {A = ℕ} 0 1 = cc in omega arith) _
+  plain-told ReadRecord lc f = another ReadRecord (f .names) (λ e. let z : _≡_ {A = ℕ} 0 1 = cc in omega arith) (λ e. let z : _≡_ {A = ℕ} 0 1 = cc in omega arith) _
+
+  -- for every card, session, command and random bytes
+  pub by-status : ByStatus s command (respond c s command random)
+  by-status =
+      past-holds c s command random B (λ w j u. early-told (ended s) w j) plain-told
+      (λ g x.
+      elsewhere _ (λ e. plain-or-signed (I s command) Select g e (sign-names s command g x))
+      (λ e. plain-or-signed (I s command) ExternalAuthenticate g e (sign-names s command g x)))

@@ -5,7 +5,7 @@ pub mod Ways
 pub mod Words
 pub mod Refusals
 pub mod Sessions
-pub mod Past
+pub mod ByBytes
 pub mod Channel
 pub mod Notes
 pub mod Moves

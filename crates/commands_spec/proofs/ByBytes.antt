@@ -39,12 +39,13 @@ use Rattle.apdu.specs.Instructions.{instruction}
 use Rattle.apdu.specs.Early.{plainStatus, signedStatus}
 use Rattle.apdu.proofs.Table.{PlainCode, SignedCode, PlainP1P2, SignedP1P2, Logged, PlainLc, SignedLc, instructions}
 use Rattle.apdu.proofs.Shapes.{Shape, four, five, full, by-shape, parsed-bare, parsed-full}
-use Rattle.apdu.proofs.Order.{Fits, Selected, fits, goes-on, plain-order, signed-order}
+use Rattle.apdu.proofs.Order.{Decides, unselected, parameters, recorded, long, passed, Fits, Selected, fits, goes-on, plain-order, signed-order}
 use Rattle.commands_spec.specs.declared.outcome.Outcome.{Outcome}
 use Rattle.commands_spec.specs.Outcomes.{refused, done, decided}
+use Rattle.commands_spec.specs.Words.{isOne}
 use Rattle.commands_spec.specs.ReadRecord.{asked}
 use Rattle.commands_spec.specs.Respond.{plainOf, signedOf, authorized, onInstruction, onParsed, respondTo, respond}
-use Rattle.commands_spec.proofs.Steps.{pick-holds, parsed-holds, header}
+use Rattle.commands_spec.proofs.Steps.{early, pick-holds, parsed-holds, header}
 
 -- ---- which commands, by their bytes and the session's fields
 
@@ -182,6 +183,15 @@ module _ (s : Session) (command : List ℕ) where
   unknown-untouched : (I ≡ UnknownClass) ⊎ (I ≡ UnknownInstruction) → Untouched s command
   unknown-untouched u = unnamed (λ e. no-plain I Select e u) (λ e. no-plain I ExternalAuthenticate e u) (λ g e. no-signed I g e u)
 
+-- steps 3 to 5 refuse with their own words
+early-word : {S P R L : Type 0} {w : ℕ} → Decides S P R L w → (w ≡ 0x9000 → ⊥) → isOne w early ≡ true
+unfolding isOne
+early-word (unselected n) h = refl
+early-word (parameters s n) h = refl
+early-word (recorded s p n) h = refl
+early-word (long s p r n) h = refl
+early-word (passed s p r l) h = absurd (h refl)
+
 -- a plain command past step 5
 pub record PlainPast (c : Card) (s : Session) (command : List ℕ) (p : Plain) (lc : ℕ) : Type 0 where
   pub names : instruction (byteAt command 0) (byteAt command 1) ≡ IsPlain p
@@ -189,7 +199,7 @@ pub record PlainPast (c : Card) (s : Session) (command : List ℕ) (p : Plain) (
   pub fit : Fits (Selected p (s .selected)) (PlainP1P2 p (byteAt command 2) (byteAt command 3)) (Logged p (byteAt command 2) (c .head .fixed .logsize)) (PlainLc p lc)
 
 module _ (c : Card) (s : Session) (command random : List ℕ) (P : Outcome → Type 0)
-    (refusal : (w : ℕ) → Untouched s command → P (refused (c .head) (ended s) w))
+    (refusal : (w : ℕ) → isOne w early ≡ true → Untouched s command → P (refused (c .head) (ended s) w))
     (plain : (p : Plain) (lc : ℕ) → PlainPast c s command p lc
     → P (plainOf p (c .head) (getD (c .log) (asked command) void) s (header command lc) command (dataOf command lc) random))
     (signed : (g : Signed) → Signs s command g → P (authorized g (c .head) s (header command (byteAt command 4)) command)) where
@@ -259,7 +269,7 @@ module _ (c : Card) (s : Session) (command random : List ℕ) (P : Outcome → T
 
   instruction-holds : (lc : ℕ) → parsed command ≡ headed command lc → (i : Instruction) → I s command ≡ i
       → P (onInstruction i H R s (header command lc) command random)
-  unfolding onInstruction decided
+  unfolding onInstruction decided isOne
   instruction-holds lc f (IsPlain p) e =
       pick-holds P (eqb (plainStatus p (s .selected) (header command lc) (H .fixed .logsize)) 0x9000) _ _
       (λ t.
@@ -268,17 +278,21 @@ module _ (c : Card) (s : Session) (command random : List ℕ) (P : Outcome → T
         formed = by-shape command .command (header command lc) .0 f;
         fit = fits (plain-order p (s .selected) (header command lc) (H .fixed .logsize)) (eqb-true _ _ t);
       }))
-      (λ t. refusal _ (plain-refused p lc e f (eqb-false _ _ t)))
+      (λ t.
+      let n = eqb-false _ _ t in
+      refusal _ (early-word (plain-order p (s .selected) (header command lc) (H .fixed .logsize)) n) (plain-refused p lc e f n))
   instruction-holds lc f (IsSigned g) e =
       pick-holds P (eqb (signedStatus g (s .selected) (header command lc)) 0x9000) _ _
       (λ t. signed-passed g lc e f (eqb-true _ _ t))
-      (λ t. refusal _ (signed-refused g lc e f (eqb-false _ _ t)))
-  instruction-holds lc f UnknownClass e = refusal 0x6E00 (unknown-untouched s command (inl e))
-  instruction-holds lc f UnknownInstruction e = refusal 0x6D00 (unknown-untouched s command (inr e))
+      (λ t.
+      let n = eqb-false _ _ t in
+      refusal _ (early-word (signed-order g (s .selected) (header command lc)) n) (signed-refused g lc e f n))
+  instruction-holds lc f UnknownClass e = refusal 0x6E00 refl (unknown-untouched s command (inl e))
+  instruction-holds lc f UnknownInstruction e = refusal 0x6D00 refl (unknown-untouched s command (inr e))
 
   -- what holds of each way holds of a command's outcome
   pub past-holds : P (respond c s command random)
-  unfolding respond respondTo onParsed
+  unfolding respond respondTo onParsed isOne
   past-holds =
       parsed-holds command (λ (x : Parsed). parsed command ≡ x → P (onParsed x H R s command random))
-      (λ e. refusal 0x6700 (wrong-untouched s command e)) (λ lc w e. instruction-holds lc e (I s command) refl) refl
+      (λ e. refusal 0x6700 refl (wrong-untouched s command e)) (λ lc w e. instruction-holds lc e (I s command) refl) refl
