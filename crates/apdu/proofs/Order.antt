@@ -1,11 +1,10 @@
 -- Steps 3 to 5 in document 01's order: "Not selected (SELECT excepted): 6985"; "P1 or P2: 6A86 (unknown tags too); then READ RECORD's
 -- 6A83"; "Lc: 6700". Each word exactly where its step is the first that refuses. Assumes nothing.
-use mathlib.Core.Bool.{Bool, true, false, not, _||_, false≢true}
+use mathlib.Core.Bool.{Bool, true, false, _||_, false≢true}
 use mathlib.Core.Logic.{_↔_}
-use mathlib.Core.Path.{_≡_, refl, sym, _∙_}
+use mathlib.Core.Path.{_≡_, refl}
 use Prim.Native.Nat.{ℕ}
 use native.Mathlib.Omega.{arith}
-use Rattle.octets.specs.Choice.{refuse}
 use Rattle.apdu.specs.declared.parsing.Apdu.{Apdu}
 use Rattle.apdu.specs.declared.instructions.Plain.{Plain}
 use Rattle.apdu.specs.declared.instructions.Plain.the-variants.{Select, InitializeUpdate, ExternalAuthenticate, VerifyPin, GetData, ReadRecord}

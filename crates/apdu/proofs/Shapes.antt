@@ -1,17 +1,16 @@
 -- Step 1 by the shape of the bytes: four bytes are a header; five a header and Le; else a header, Lc, as many bytes of data as Lc says, at
 -- least one, and at most one byte Le. All other bytes are no command. Assumes nothing.
-use mathlib.Core.Bool.{Bool, true, false, _||_}
+use mathlib.Core.Bool.{true, false, _||_}
 use mathlib.Core.List.{List, [], _∷_, _++_}
 use mathlib.Core.Logic.{_↔_, _⊎_, inl, inr}
 use mathlib.Core.Path.{_≡_, refl, sym, ap, subst, _∙_}
-use Prim.Native.Nat.{ℕ, suc, _+_, _-_, _≤_, _<_}
+use Prim.Native.Nat.{ℕ, _+_, _≤_}
 use native.Mathlib.Omega.{arith}
 use native.Mathlib.Decide.{decLe}
-use borrow.Author.Tests.{ltb-true, ltb-false, eqb-true, eqb-false, lt-ltb, le-ltb, eq-eqb, ne-eqb}
+use borrow.Author.Tests.{ltb-true, eqb-true, eqb-false, lt-ltb, le-ltb, eq-eqb, ne-eqb}
 use lib.Dec.{ltb, eqb}
 use lib.ListN.{length, take, drop, length-append, length-drop, take-append-drop}
 use lib.Seq.{length-take-le}
-use Rattle.octets.specs.Choice.{pick}
 use Rattle.octets.specs.Bytes.{byteAt}
 use Rattle.octets.proofs.Rules.{or-left, or-right}
 use Rattle.octets.proofs.Parts.{part-between}
@@ -19,7 +18,12 @@ use Rattle.apdu.specs.declared.parsing.Apdu.{Apdu}
 use Rattle.apdu.specs.declared.parsing.Parsed.{Parsed}
 use Rattle.apdu.specs.declared.parsing.Parsed.the-variants.{Command, WrongLength}
 use Rattle.apdu.specs.Parsing.{headed, parsed, dataOf}
+use Rattle.apdu.proofs.Within.{parsed-leads}
 use Rattle.apdu.proofs.Table.{pick-holds, one-of}
+
+-- the header that leads the bytes c, with lc bytes of data
+abbrev pub header : List ℕ → ℕ → Apdu
+header c lc = record { cla = byteAt c 0; ins = byteAt c 1; p1 = byteAt c 2; p2 = byteAt c 3; lc = lc }
 
 -- the bytes c of a command with the header a
 pub data Shape (c : List ℕ) (a : Apdu) : Type 0 where
@@ -128,3 +132,9 @@ by-shape c =
 pub data-shaped : (c : List ℕ) (a : Apdu) (body le : List ℕ) → length body ≡ a .lc → c ≡ a .cla ∷ a .ins ∷ a .p1 ∷ a .p2 ∷ a .lc ∷ (body ++ le)
     → dataOf c (a .lc) ≡ body
 data-shaped c a body le l e = rw e (part-between (a .cla ∷ a .ins ∷ a .p1 ∷ a .p2 ∷ a .lc ∷ []) body le 5 (a .lc) refl l)
+
+-- a command's header is its first bytes
+pub header-is : (c : List ℕ) (a : Apdu) → parsed c ≡ Command a → a ≡ header c (a .lc)
+header-is c a e =
+    let l = parsed-leads c a e in
+    λ i. record { cla = l .cla i; ins = l .ins i; p1 = l .p1 i; p2 = l .p2 i; lc = a .lc }

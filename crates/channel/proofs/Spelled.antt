@@ -5,13 +5,13 @@ use Prim.Native.Nat.{ℕ, zero, suc, _+_, _-_, _*_}
 use native.Mathlib.Omega.{arith}
 use lib.ListN.{length, take, drop, length-append, length-drop, drop-of-length-le}
 use lib.Seq.{take-at, drop-at, drop-drop, take-all}
-use Rattle.octets.specs.Bytes.{AreBytes, zeros}
+use Rattle.octets.specs.Bytes.{zeros}
 use Rattle.des_spec.specs.Bits.{xorBytes}
 use Rattle.des_spec.specs.Des.{encipher, decipher}
 use Rattle.des_spec.specs.Modes.{tripleDes, ecb, cbcEncipher, cbc, blocks, rest, ecbText, cbcText, padded, lastBlock, signature}
 use Rattle.des_spec.proofs.Lengths.{length-tripleDes}
-use Rattle.des_spec.proofs.Padding.{blocks-padded, blocks-drop, rest-padded}
-use Rattle.channel.specs.Channel.{derivation, sessionKey, cardCryptogram, hostCryptogram, cmacOf, rmacOf, bankSent, bankReceived, received}
+use Rattle.des_spec.proofs.Padding.{blocks-padded, rest-padded}
+use Rattle.channel.specs.Channel.{derivation, sessionKey, cardCryptogram, hostCryptogram, cmacOf, rmacOf, bankSent, received}
 
 -- ---- a signature has eight bytes, whatever it starts from
 

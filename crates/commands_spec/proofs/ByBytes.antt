@@ -1,35 +1,26 @@
 -- The ways through steps 1 to 5 told by bytes: SELECT, EXTERNAL AUTHENTICATE behind its INITIALIZE UPDATE and the six signed commands past
 -- these steps, with CLA, INS, P1, P2 and Lc as document 01 prints them; and every other command. Assumes nothing.
-use mathlib.Core.Bool.{Bool, true, false, not, _&&_, _||_, false≢true}
-use mathlib.Core.List.{List, [], _∷_, _++_}
+use mathlib.Core.Bool.{true}
+use mathlib.Core.List.{List, [], _∷_}
 use mathlib.Core.Logic.{_⊎_, inl, inr}
-use mathlib.Core.Path.{_≡_, refl, sym, ap, _∙_}
-use Prim.Native.Nat.{ℕ, zero, suc, _+_, _-_, _*_, _≤_, _<_}
+use mathlib.Core.Path.{_≡_, refl, ap, _∙_}
+use Prim.Native.Nat.{ℕ, _+_, _≤_}
 use native.Mathlib.Omega.{arith}
 use borrow.Author.Tests.{eqb-true, eqb-false}
 use lib.Dec.{eqb}
-use lib.ListN.{length, getD, take, drop, length-append}
-use Rattle.octets.specs.Choice.{pick}
-use Rattle.octets.specs.Bytes.{zeros, byteAt, part, same}
-use Rattle.octets.specs.Buffers.{content}
-use Rattle.octets.proofs.Equality.{equal-same, same-equal, differ-same}
-use Rattle.octets.proofs.Parts.{part-part}
-use Rattle.des_spec.specs.Modes.{signature}
+use lib.ListN.{length, getD, length-append}
+use Rattle.octets.specs.Bytes.{byteAt}
 use Rattle.card.specs.declared.head.Head.{Head}
 use Rattle.card.specs.Card.{Card, void}
 use Rattle.session.specs.declared.Set.{Set}
-use Rattle.session.specs.declared.Level.{Level}
-use Rattle.session.specs.declared.Level.the-variants.{Closed, Mac, Rmac}
-use Rattle.session.specs.declared.Channel.{Channel}
-use Rattle.session.specs.declared.Pending.{Pending}
-use Rattle.session.specs.declared.Pending.the-variants.{Nothing, Update, Debiting, Crediting}
+use Rattle.session.specs.declared.Pending.the-variants.{Update}
 use Rattle.session.specs.declared.Session.{Session}
 use Rattle.session.specs.Session.{ended}
 use Rattle.apdu.specs.declared.parsing.Apdu.{Apdu}
 use Rattle.apdu.specs.declared.parsing.Parsed.{Parsed}
 use Rattle.apdu.specs.declared.parsing.Parsed.the-variants.{Command, WrongLength}
 use Rattle.apdu.specs.declared.instructions.Plain.{Plain}
-use Rattle.apdu.specs.declared.instructions.Plain.the-variants.{Select, InitializeUpdate, ExternalAuthenticate, VerifyPin, GetData, ReadRecord}
+use Rattle.apdu.specs.declared.instructions.Plain.the-variants.{Select, ExternalAuthenticate}
 use Rattle.apdu.specs.declared.instructions.Signed.{Signed}
 use Rattle.apdu.specs.declared.instructions.Signed.the-variants.{PutKey, PinChange, StoreData, InitializeTransaction, CompleteTransaction, PutData}
 use Rattle.apdu.specs.declared.instructions.Instruction.{Instruction}
@@ -37,15 +28,14 @@ use Rattle.apdu.specs.declared.instructions.Instruction.the-variants.{IsPlain, 
 use Rattle.apdu.specs.Parsing.{headed, parsed, dataOf}
 use Rattle.apdu.specs.Instructions.{instruction}
 use Rattle.apdu.specs.Early.{plainStatus, signedStatus}
-use Rattle.apdu.proofs.Table.{PlainCode, SignedCode, PlainP1P2, SignedP1P2, Logged, PlainLc, SignedLc, instructions}
-use Rattle.apdu.proofs.Shapes.{Shape, four, five, full, by-shape, parsed-bare, parsed-full}
+use Rattle.apdu.proofs.Table.{pick-holds, SignedCode, PlainP1P2, SignedP1P2, Logged, PlainLc, SignedLc, instructions}
+use Rattle.apdu.proofs.Shapes.{header, header-is, Shape, four, five, full, by-shape, parsed-bare, parsed-full}
 use Rattle.apdu.proofs.Order.{Decides, unselected, parameters, recorded, long, passed, Fits, Selected, fits, goes-on, plain-order, signed-order}
 use Rattle.commands_spec.specs.declared.outcome.Outcome.{Outcome}
-use Rattle.commands_spec.specs.Outcomes.{refused, done, decided}
+use Rattle.commands_spec.specs.Outcomes.{refused, decided}
 use Rattle.commands_spec.specs.Words.{isOne}
 use Rattle.commands_spec.specs.ReadRecord.{asked}
-use Rattle.commands_spec.specs.Respond.{plainOf, signedOf, authorized, onInstruction, onParsed, respondTo, respond}
-use Rattle.commands_spec.proofs.Steps.{early, pick-holds, parsed-holds, header}
+use Rattle.commands_spec.specs.Respond.{plainOf, authorized, onInstruction, onParsed, respondTo, respond}
 
 -- ---- which commands, by their bytes and the session's fields
 
@@ -183,8 +173,11 @@ module _ (s : Session) (command : List ℕ) where
   unknown-untouched : (I ≡ UnknownClass) ⊎ (I ≡ UnknownInstruction) → Untouched s command
   unknown-untouched u = unnamed (λ e. no-plain I Select e u) (λ e. no-plain I ExternalAuthenticate e u) (λ g e. no-signed I g e u)
 
--- steps 3 to 5 refuse with their own words
-early-word : {S P R L : Type 0} {w : ℕ} → Decides S P R L w → (w ≡ 0x9000 → ⊥) → isOne w early ≡ true
+-- the status words of steps 1 to 5
+abbrev pub earlyWords : List ℕ
+earlyWords = 0x6700 ∷ 0x6985 ∷ 0x6A83 ∷ 0x6A86 ∷ 0x6D00 ∷ 0x6E00 ∷ []
+
+early-word : {S P R L : Type 0} {w : ℕ} → Decides S P R L w → (w ≡ 0x9000 → ⊥) → isOne w earlyWords ≡ true
 unfolding isOne
 early-word (unselected n) h = refl
 early-word (parameters s n) h = refl
@@ -199,7 +192,7 @@ pub record PlainPast (c : Card) (s : Session) (command : List ℕ) (p : Plain) (
   pub fit : Fits (Selected p (s .selected)) (PlainP1P2 p (byteAt command 2) (byteAt command 3)) (Logged p (byteAt command 2) (c .head .fixed .logsize)) (PlainLc p lc)
 
 module _ (c : Card) (s : Session) (command random : List ℕ) (P : Outcome → Type 0)
-    (refusal : (w : ℕ) → isOne w early ≡ true → Untouched s command → P (refused (c .head) (ended s) w))
+    (refusal : (w : ℕ) → isOne w earlyWords ≡ true → Untouched s command → P (refused (c .head) (ended s) w))
     (plain : (p : Plain) (lc : ℕ) → PlainPast c s command p lc
     → P (plainOf p (c .head) (getD (c .log) (asked command) void) s (header command lc) command (dataOf command lc) random))
     (signed : (g : Signed) → Signs s command g → P (authorized g (c .head) s (header command (byteAt command 4)) command)) where
@@ -290,9 +283,14 @@ module _ (c : Card) (s : Session) (command random : List ℕ) (P : Outcome → T
   instruction-holds lc f UnknownClass e = refusal 0x6E00 refl (unknown-untouched s command (inl e))
   instruction-holds lc f UnknownInstruction e = refusal 0x6D00 refl (unknown-untouched s command (inr e))
 
+  parsed-holds : (x : Parsed) → parsed command ≡ x → P (onParsed x H R s command random)
+  unfolding onParsed isOne
+  parsed-holds (Command a) e =
+      let q = header-is command a e in
+      rw q (instruction-holds (a .lc) (e ∙ ap Command q) (I s command) refl)
+  parsed-holds WrongLength e = refusal 0x6700 refl (wrong-untouched s command e)
+
   -- what holds of each way holds of a command's outcome
   pub past-holds : P (respond c s command random)
-  unfolding respond respondTo onParsed isOne
-  past-holds =
-      parsed-holds command (λ (x : Parsed). parsed command ≡ x → P (onParsed x H R s command random))
-      (λ e. refusal 0x6700 refl (wrong-untouched s command e)) (λ lc w e. instruction-holds lc e (I s command) refl) refl
+  unfolding respond respondTo
+  past-holds = parsed-holds (parsed command) refl

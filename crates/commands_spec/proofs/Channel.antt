@@ -4,25 +4,22 @@ use mathlib.Core.Bool.{Bool, true, false, not, _&&_, false≢true}
 use mathlib.Core.List.{List, [], _∷_, _++_, append-assoc}
 use mathlib.Core.Logic.{_⊎_, inl, inr}
 use mathlib.Core.Path.{_≡_, refl, sym, ap, _∙_}
-use Prim.Native.Nat.{ℕ, _+_, _-_, _≤_}
+use Prim.Native.Nat.{ℕ, _+_, _-_}
 use native.Mathlib.Omega.{arith}
 use borrow.Author.Tests.{eqb-true, eqb-false, not-true, not-false}
 use lib.Dec.{eqb}
-use lib.ListN.{length, getD, take, drop, length-append}
+use lib.ListN.{length, getD, take, length-append}
 use lib.Seq.{take-at}
-use Rattle.octets.specs.Choice.{pick}
 use Rattle.octets.specs.Bytes.{zeros, byteAt, part, same}
-use Rattle.octets.specs.Words.{word}
-use Rattle.octets.specs.Buffers.{content, holding}
+use Rattle.octets.specs.Buffers.{content}
 use Rattle.octets.proofs.Equality.{equal-same, same-equal, differ-same}
 use Rattle.octets.proofs.Holding.{content-holding}
 use Rattle.octets.proofs.Parts.{part-part, part-between}
-use Rattle.octets.proofs.Rules.{and-yes, and-left, and-right}
+use Rattle.octets.proofs.Rules.{and-yes, and-right}
 use Rattle.des_spec.specs.Modes.{signature}
 use Rattle.card.specs.declared.head.Head.{Head}
 use Rattle.card.specs.Card.{Card, void}
 use Rattle.session.specs.declared.Set.{Set}
-use Rattle.session.specs.declared.Level.{Level}
 use Rattle.session.specs.declared.Level.the-variants.{Closed, Mac, Rmac}
 use Rattle.session.specs.declared.Channel.{Channel}
 use Rattle.session.specs.declared.Pending.{Pending}
@@ -38,10 +35,11 @@ use Rattle.apdu.specs.declared.instructions.Plain.{Plain}
 use Rattle.apdu.specs.declared.instructions.Plain.the-variants.{Select, InitializeUpdate, ExternalAuthenticate, VerifyPin, GetData, ReadRecord}
 use Rattle.apdu.specs.declared.instructions.Signed.{Signed}
 use Rattle.apdu.specs.declared.instructions.Signed.the-variants.{PutKey, PinChange, StoreData, InitializeTransaction, CompleteTransaction, PutData}
-use Rattle.apdu.specs.declared.instructions.Instruction.the-variants.{IsPlain, IsSigned}
+use Rattle.apdu.specs.declared.instructions.Instruction.the-variants.{IsPlain}
 use Rattle.apdu.specs.Parsing.{dataOf}
 use Rattle.apdu.specs.Lengths.{macSize}
-use Rattle.apdu.proofs.Table.{instructions}
+use Rattle.apdu.proofs.Table.{pick-holds, instructions}
+use Rattle.apdu.proofs.Shapes.{header}
 use Rattle.commands_spec.specs.declared.outcome.Outcome.{Outcome}
 use Rattle.commands_spec.specs.Outcomes.{refused, done, decided}
 use Rattle.commands_spec.specs.Words.{isOne}
@@ -59,8 +57,7 @@ use Rattle.commands_spec.specs.GetData.{getDataOf}
 use Rattle.commands_spec.specs.PutData.{putDataOf}
 use Rattle.commands_spec.specs.ReadRecord.{asked, readRecordOf}
 use Rattle.commands_spec.specs.Respond.{plainOf, signedOf, authorized, respond}
-use Rattle.commands_spec.proofs.Steps.{early, pick-holds, decided-either, header}
-use Rattle.commands_spec.proofs.ByBytes.{Formed, Selects, Authenticates, Signs, Untouched, PlainPast, I, one-plain, plain-or-signed, select-names, authenticate-names, sign-names, signed-long, shape-lc, shape-formed, past-holds}
+use Rattle.commands_spec.proofs.ByBytes.{earlyWords, Selects, Authenticates, Signs, Untouched, PlainPast, I, one-plain, plain-or-signed, select-names, authenticate-names, sign-names, signed-long, shape-lc, shape-formed, past-holds}
 
 -- ---- the law
 
@@ -235,13 +232,13 @@ module _ (c : Card) (s : Session) (command : List ℕ) (g : Signed) (x : Signs s
   unfolding signedOf putKeyOf pinChangeOf storeDataOf initializeTransactionOf completeTransactionOf putDataOf refused done ended flagged chained answered
   runs PutKey y r =
       let z = of-84 PutKey (y .code .0) r in
-      decided-either (Moves s command) _ _ _ _ (λ t. z _ refl) (z _ refl)
+      decided-or (Moves s command) _ _ _ _ (λ t. z _ refl) (λ t. z _ refl)
   runs PinChange y r =
       let z = of-84 PinChange (y .code .0) r in
-      decided-either (Moves s command) _ _ _ _ (λ t. pick-holds (Moves s command) (eqb (length (dataOf command (b - macSize))) 0) _ _ (λ u. z _ refl) (λ u. z _ refl)) (z _ refl)
+      decided-or (Moves s command) _ _ _ _ (λ t. pick-holds (Moves s command) (eqb (length (dataOf command (b - macSize))) 0) _ _ (λ u. z _ refl) (λ u. z _ refl)) (λ t. z _ refl)
   runs StoreData y r =
       let z = of-84 StoreData (y .code .0) r in
-      decided-either (Moves s command) _ _ _ _ (λ t. z _ refl) (z _ refl)
+      decided-or (Moves s command) _ _ _ _ (λ t. z _ refl) (λ t. z _ refl)
   runs InitializeTransaction y r =
       decided-or (Moves s command) _ _ _ _
       (λ t. answers s command m (sent r) _ _ refl (content-holding _) (y .code .0) refl)
@@ -252,7 +249,7 @@ module _ (c : Card) (s : Session) (command : List ℕ) (g : Signed) (x : Signs s
       (λ t. stays s command m (sent r) _ refl (λ z. t))
   runs PutData y r =
       let z = of-84 PutData (y .code .0) r in
-      decided-either (Moves s command) _ _ _ _ (λ t. z _ refl) (z _ refl)
+      decided-or (Moves s command) _ _ _ _ (λ t. z _ refl) (λ t. z _ refl)
 
   signed-moves : (s .channel .level ≡ Closed → ⊥) → RightMac s command → Moves s command O
   unfolding authorized
@@ -425,7 +422,7 @@ module _ (c : Card) (s : Session) (command random : List ℕ) where
   plain-after ExternalAuthenticate lc f = authenticates lc f (s .pending) refl
   plain-after VerifyPin lc f =
       let u = apart VerifyPin (f .names) (λ e. let z : _≡_ {A = ℕ} 0 1 = cc in omega arith) (λ e. let z : _≡_ {A = ℕ} 0 1 = cc in omega arith) in
-      decided-either A _ _ _ _ (λ t. pin-kept u _) (kept _ u refl)
+      decided-or A _ _ _ _ (λ t. pin-kept u _) (λ t. kept _ u refl)
   plain-after GetData lc f = kept _ (apart GetData (f .names) (λ e. let z : _≡_ {A = ℕ} 0 1 = cc in omega arith) (λ e. let z : _≡_ {A = ℕ} 0 1 = cc in omega arith)) refl
   plain-after ReadRecord lc f = kept _ (apart ReadRecord (f .names) (λ e. let z : _≡_ {A = ℕ} 0 1 = cc in omega arith) (λ e. let z : _≡_ {A = ℕ} 0 1 = cc in omega arith)) refl
 
@@ -444,15 +441,15 @@ pub record ByStatus (s : Session) (command : List ℕ) (o : Outcome) : Type 0 wh
       → (set : Set) × Authenticates s command set
 
 -- a word of steps 1 to 5 is none of these
-no-word : (w x : ℕ) → isOne w early ≡ true → isOne x early ≡ false → w ≡ x → ⊥
-no-word w x j n e = false≢true (sym n ∙ ap (λ (y : ℕ). isOne y early) (sym e) ∙ j)
+no-word : (w x : ℕ) → isOne w earlyWords ≡ true → isOne x earlyWords ≡ false → w ≡ x → ⊥
+no-word w x j n e = false≢true (sym n ∙ ap (λ (y : ℕ). isOne y earlyWords) (sym e) ∙ j)
 
-select-early : (w : ℕ) → isOne w early ≡ true → (w ≡ 0x9000) ⊎ (w ≡ 0x6A82) → ⊥
+select-early : (w : ℕ) → isOne w earlyWords ≡ true → (w ≡ 0x9000) ⊎ (w ≡ 0x6A82) → ⊥
 unfolding isOne
 select-early w j (inl e) = no-word w 0x9000 j refl e
 select-early w j (inr e) = no-word w 0x6A82 j refl e
 
-authenticate-early : (w : ℕ) → isOne w early ≡ true → (w ≡ 0x9000) ⊎ (w ≡ 0x6300) ⊎ (w ≡ 0x6982) → ⊥
+authenticate-early : (w : ℕ) → isOne w earlyWords ≡ true → (w ≡ 0x9000) ⊎ (w ≡ 0x6300) ⊎ (w ≡ 0x6982) → ⊥
 unfolding isOne
 authenticate-early w j (inl e) = no-word w 0x9000 j refl e
 authenticate-early w j (inr (inl e)) = no-word w 0x6300 j refl e
@@ -463,7 +460,7 @@ module _ (c : Card) (s : Session) (command random : List ℕ) where
   B o = ByStatus s command o
 
   -- a refusal of steps 1 to 5, and EXTERNAL AUTHENTICATE's 6985
-  early-told : (t : Session) (w : ℕ) → isOne w early ≡ true → B (refused (c .head) t w)
+  early-told : (t : Session) (w : ℕ) → isOne w earlyWords ≡ true → B (refused (c .head) t w)
   unfolding refused
   early-told t w j = record { selects = λ x y e. absurd (select-early w j e); authenticates = λ x y e. absurd (authenticate-early w j e) }
 

@@ -9,7 +9,6 @@ use Rattle.octets.specs.Choice.{pick}
 use Rattle.octets.specs.Bytes.{byteAt}
 use Rattle.octets.specs.Words.{wordAt}
 use Rattle.octets.proofs.Numbers.{word-read}
-use Rattle.session.specs.declared.Set.{Set}
 use Rattle.session.specs.declared.Set.the-variants.{Debit, Credit, Admin}
 use Rattle.session.specs.declared.Level.{Level}
 use Rattle.session.specs.declared.Level.the-variants.{Closed, Mac, Rmac}
