@@ -45,6 +45,34 @@ module _ {S P R L : Type 0} where
   goes-on (long s p r n) f = absurd (n (f .length))
   goes-on (passed s p r l) f = refl
 
+  -- and no two words are
+  pub one-word : {w v : ℕ} → Decides S P R L w → Decides S P R L v → w ≡ v
+  one-word (unselected a) (unselected x) = refl
+  one-word (unselected a) (parameters x y) = absurd (a x)
+  one-word (unselected a) (recorded x y z) = absurd (a x)
+  one-word (unselected a) (long x y z v) = absurd (a x)
+  one-word (unselected a) (passed x y z v) = absurd (a x)
+  one-word (parameters a b) (unselected x) = absurd (x a)
+  one-word (parameters a b) (parameters x y) = refl
+  one-word (parameters a b) (recorded x y z) = absurd (b y)
+  one-word (parameters a b) (long x y z v) = absurd (b y)
+  one-word (parameters a b) (passed x y z v) = absurd (b y)
+  one-word (recorded a b c) (unselected x) = absurd (x a)
+  one-word (recorded a b c) (parameters x y) = absurd (y b)
+  one-word (recorded a b c) (recorded x y z) = refl
+  one-word (recorded a b c) (long x y z v) = absurd (c z)
+  one-word (recorded a b c) (passed x y z v) = absurd (c z)
+  one-word (long a b c d) (unselected x) = absurd (x a)
+  one-word (long a b c d) (parameters x y) = absurd (y b)
+  one-word (long a b c d) (recorded x y z) = absurd (z c)
+  one-word (long a b c d) (long x y z v) = refl
+  one-word (long a b c d) (passed x y z v) = absurd (d v)
+  one-word (passed a b c d) (unselected x) = absurd (x a)
+  one-word (passed a b c d) (parameters x y) = absurd (y b)
+  one-word (passed a b c d) (recorded x y z) = absurd (z c)
+  one-word (passed a b c d) (long x y z v) = absurd (v d)
+  one-word (passed a b c d) (passed x y z v) = refl
+
   decides : (a b c d : Bool) → (a ≡ true) ↔ S → (b ≡ true) ↔ P → (c ≡ true) ↔ R → (d ≡ true) ↔ L → Decides S P R L (earlyStatus a b c d)
   unfolding earlyStatus
   decides false b c d s p r l = unselected (λ x. false≢true (s .1 x))

@@ -165,11 +165,12 @@ SignedP1P2 InitializeTransaction p1 p2 = (p1 ≤ 0x02) × (p2 ≡ 0x00)
 SignedP1P2 CompleteTransaction p1 p2 = (p1 ≡ 0x00) × (p2 ≡ 0x00)
 SignedP1P2 PutData p1 p2 = (p1 ≡ 0x02) × Tag p2
 
--- two tests that hold together, and one of two
+-- two tests that hold together
 both : (a b : Bool) → (a && b) ≡ true → (a ≡ true) × (b ≡ true)
 both true b e = (refl, e)
 both false b e = absurd (false≢true e)
 
+-- one of two
 pub one-of : (a b : Bool) → (a || b) ≡ true → (a ≡ true) ⊎ (b ≡ true)
 one-of true b e = inl refl
 one-of false b e = inr e
@@ -260,6 +261,7 @@ Logged VerifyPin p1 logsize = Unit {0}
 Logged GetData p1 logsize = Unit {0}
 Logged ReadRecord p1 logsize = (1 ≤ p1) × (p1 ≤ logsize)
 
+-- the rest of step 4
 pub records : (p : Plain) (p1 logsize : ℕ) → (hasRecord p p1 logsize ≡ true) ↔ Logged p p1 logsize
 unfolding hasRecord
 records Select p1 logsize = ((λ e. tt), (λ u. refl))
@@ -289,7 +291,7 @@ SignedLc InitializeTransaction lc = lc ≡ 12
 SignedLc CompleteTransaction lc = lc ≡ 24
 SignedLc PutData lc = 8 ≤ lc
 
--- step 5 of each
+-- step 5 of each command without a C-MAC of step 6
 pub plain-lengths : (p : Plain) (lc : ℕ) → (plainLength p lc ≡ true) ↔ PlainLc p lc
 unfolding plainLength
 plain-lengths Select lc = ((λ e. tt), (λ u. refl))
@@ -299,6 +301,7 @@ plain-lengths VerifyPin lc = equal lc 8
 plain-lengths GetData lc = equal lc 0
 plain-lengths ReadRecord lc = equal lc 0
 
+-- and of each signed one
 pub signed-lengths : (g : Signed) (lc : ℕ) → (signedLength g lc ≡ true) ↔ SignedLc g lc
 unfolding signedLength
 signed-lengths PutKey lc = equal lc 56

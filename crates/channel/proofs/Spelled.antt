@@ -24,6 +24,7 @@ cbc-long (suc n) key start text =
     let b : length (cbcEncipher n key c (drop 8 text)) ≡ 8 * n = cbc-long n key c (drop 8 text) in
     length-append c (cbcEncipher n key c (drop 8 text)) ∙ omega arith
 
+-- so it has
 pub signature-long : (key start text : List ℕ) → length (signature key start text) ≡ 8
 unfolding signature lastBlock cbcText cbc
 signature-long key start text =
@@ -37,9 +38,11 @@ signature-long key start text =
 
 -- two challenges of eight bytes, h of the host and c of the card
 module _ (h1 h2 h3 h4 h5 h6 h7 h8 c1 c2 c3 c4 c5 c6 c7 c8 : ℕ) where
+  -- the host's
   abbrev host : List ℕ
   host = h1 ∷ h2 ∷ h3 ∷ h4 ∷ h5 ∷ h6 ∷ h7 ∷ h8 ∷ []
 
+  -- the card's
   abbrev card : List ℕ
   card = c1 ∷ c2 ∷ c3 ∷ c4 ∷ c5 ∷ c6 ∷ c7 ∷ c8 ∷ []
 
@@ -57,6 +60,7 @@ module _ (h1 h2 h3 h4 h5 h6 h7 h8 c1 c2 c3 c4 c5 c6 c7 c8 : ℕ) where
         ≡ signature enc (0 ∷ 0 ∷ 0 ∷ 0 ∷ 0 ∷ 0 ∷ 0 ∷ 0 ∷ [])
         (c1 ∷ c2 ∷ c3 ∷ c4 ∷ c5 ∷ c6 ∷ c7 ∷ c8 ∷ h1 ∷ h2 ∷ h3 ∷ h4 ∷ h5 ∷ h6 ∷ h7 ∷ h8 ∷ [])
 
+  -- so they are made
   pub challenged : (key enc : List ℕ) → Challenged key enc
   unfolding sessionKey derivation ecbText ecb blocks rest cardCryptogram hostCryptogram
   challenged key enc = record { session = simp append-nil; of-card = refl; of-host = refl }
@@ -77,6 +81,7 @@ rmac-text key start cmac body = rw append-assoc
 
 -- ---- what travels enciphered
 
+-- one block more
 next-block : (block more : List ℕ) → length block ≡ 8 → blocks (block ++ more) ≡ suc (blocks more)
 unfolding blocks
 next-block block more l = omega (arith, length-append block more)

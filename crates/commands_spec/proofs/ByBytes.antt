@@ -91,13 +91,14 @@ signed-long InitializeTransaction lc e = omega arith
 signed-long CompleteTransaction lc e = omega arith
 signed-long PutData lc e = e
 
--- commands are told apart by their bytes
+-- an instruction is one command's
 pub one-plain : (i : Instruction) (p q : Plain) → i ≡ IsPlain p → i ≡ IsPlain q → p ≡ q
 one-plain i p q e f = cc
 
 one-signed : (i : Instruction) (g k : Signed) → i ≡ IsSigned g → i ≡ IsSigned k → g ≡ k
 one-signed i g k e f = cc
 
+-- and not both a plain and a signed one's
 pub plain-or-signed : (i : Instruction) (p : Plain) (g : Signed) → i ≡ IsPlain p → i ≡ IsSigned g → ⊥
 plain-or-signed i p g e f = let z : _≡_ {A = ℕ} 0 1 = cc in omega arith
 
@@ -110,9 +111,11 @@ no-signed i g e (inl f) = let z : _≡_ {A = ℕ} 0 1 = cc in omega arith
 no-signed i g e (inr f) = let z : _≡_ {A = ℕ} 0 1 = cc in omega arith
 
 module _ (s : Session) (command : List ℕ) where
+  -- the instruction of the first two bytes
   abbrev pub I : Instruction
   I = instruction (byteAt command 0) (byteAt command 1)
 
+  -- that of each of them
   pub select-names : Selects command → I ≡ IsPlain Select
   select-names x = instructions (IsPlain Select) (byteAt command 0) (byteAt command 1) .1 (x .cla, x .ins)
 

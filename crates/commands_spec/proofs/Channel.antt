@@ -89,10 +89,11 @@ pub record Authenticated (s : Session) (command : List ℕ) (set : Set) (o : Out
   pub right : part command 5 8 ≡ s .offer .expected → part command 13 8 ≡ signature (s .offer .mac) (zeros 8) (take 13 command)
       → (o .status ≡ 0x9000) × Opens s command set (o .session .channel)
 
--- the bytes of an answer, and their number before an R-MAC and 90 00
+-- the bytes of an answer
 abbrev pub response : Outcome → List ℕ
 response o = content (o .reply)
 
+-- how many of them come before an R-MAC and 90 00
 abbrev pub before : Outcome → ℕ
 before o = length (response o) - 10
 
@@ -129,6 +130,17 @@ pub record ChannelAfter (s : Session) (command : List ℕ) (o : Outcome) : Type 
   pub signed : (g : Signed) → Signs s command g → (s .channel .level ≡ Closed → ⊥) → RightMac s command → Moves s command o
   -- every other command keeps channel and chains
   pub otherwise : Untouched s command → o .session .channel ≡ s .channel
+
+-- a command signed so has a right C-MAC: header, Lc that counts the C-MAC, data, the signature of all that, and Le or none
+pub right-mac : (s : Session) (cla ins p1 p2 : ℕ) (body le : List ℕ)
+    → RightMac s (cla ∷ ins ∷ p1 ∷ p2 ∷ (length body + 8) ∷ (body ++ (signature (s .channel .mac) (s .channel .cmac) (cla ∷ ins ∷ p1 ∷ p2 ∷ (length body + 8) ∷ body) ++ le)))
+right-mac s cla ins p1 p2 body le =
+    let front : List ℕ = cla ∷ ins ∷ p1 ∷ p2 ∷ (length body + 8) ∷ body in
+    let mac : List ℕ = signature (s .channel .mac) (s .channel .cmac) front in
+    let n : length body + 8 - 3 ≡ length front = omega arith in
+    rw n
+    (part-between front mac le (length front) 8 refl (signature-long (s .channel .mac) (s .channel .cmac) front)
+    ∙ ap (signature (s .channel .mac) (s .channel .cmac)) (sym (take-at front (mac ++ le) (length front) refl)))
 
 -- ---- a signed command past step 5
 

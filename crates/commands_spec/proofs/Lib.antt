@@ -7,6 +7,7 @@ pub mod Refusals
 pub mod Sessions
 pub mod ByBytes
 pub mod Channel
+pub mod FirstSteps
 pub mod Notes
 pub mod Moves
 pub mod Cuts

@@ -27,10 +27,11 @@ row selected verified level enc mac cmac rmac pending offer-enc offer-mac expect
       offer = record { enc = offer-enc; mac = offer-mac; expected = expected };
     }
 
--- eight zeros, and sixteen
+-- eight zeros
 abbrev z8 : List ℕ
 z8 = 0 ∷ 0 ∷ 0 ∷ 0 ∷ 0 ∷ 0 ∷ 0 ∷ 0 ∷ []
 
+-- sixteen zeros
 abbrev z16 : List ℕ
 z16 = 0 ∷ 0 ∷ 0 ∷ 0 ∷ 0 ∷ 0 ∷ 0 ∷ 0 ∷ 0 ∷ 0 ∷ 0 ∷ 0 ∷ 0 ∷ 0 ∷ 0 ∷ 0 ∷ []
 

@@ -27,6 +27,7 @@ pub record Sets : Type 0 where
   pub credit : (setNumber Credit ≡ 2) × (setOf 2 ≡ Credit)
   pub admin : (setNumber Admin ≡ 3) × (setOf 3 ≡ Admin)
 
+-- so they are, both ways
 pub sets-numbered : Sets
 unfolding setNumber setOf
 sets-numbered = record { debit = (refl, refl); credit = (refl, refl); admin = (refl, refl) }

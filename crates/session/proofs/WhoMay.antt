@@ -44,6 +44,7 @@ pub record Open (level : Level) : Type 0 where
   pub with-rmac : hasRmac level ≡ true → (set : Set) × (level ≡ Rmac set)
   pub without : ((set : Set) → level ≡ Rmac set → ⊥) → hasRmac level ≡ false
 
+-- every level is so
 pub open-or-not : (level : Level) → Open level
 unfolding isOpen hasRmac
 open-or-not Closed = record { shut = λ e. refl; opened = λ n. absurd (n refl); with-rmac = λ e. absurd (false≢true e); without = λ n. refl }
