@@ -18,8 +18,8 @@ use Rattle.purse_spec.specs.Calls.{Run}
 use Rattle.purse_spec.specs.Installation.{installation}
 use Rattle.purse_spec.specs.Startup.{startup}
 use Rattle.purse_spec.specs.Commands.{command}
-use Rattle.purse_spec.specs.History.{Call, install, start, send, State, run}
-use Rattle.purse_spec.proofs.Answers.{Reason, one, two, three, four, six, seven, done, answered, areaFor, answers-keep}
+use Rattle.purse_spec.specs.History.{Call, install, start, send, run}
+use Rattle.purse_spec.proofs.Answers.{listed, areaFor, answers-keep}
 use Rattle.bench_file.specs.declared.record.Printed.{Printed}
 use Rattle.bench_file.proofs.Lent.{take-least}
 use Rattle.bench_file.specs.Lines.{ran, moved, line, answerLine, responseLine, sessionAfter}
@@ -27,18 +27,9 @@ use Rattle.bench_file.specs.Printed.{printed, Runs, answerPrinted, respo
 
 -- ---- answers
 
-most : {x : Call} {st : State} (n : ℕ) → Reason x st n → n ≤ 7
-most n (one w) = omega arith
-most n (three v w) = omega arith
-most n (four u v w) = omega arith
-most n (two t u v w) = omega arith
-most n (six s t u v w) = omega arith
-most n (seven a) = omega arith
-most n (done a) = omega arith
-
 -- the answers that the bench can get are 0 to 7
-pub listed : (x : Call) (m : List ℕ) (s : Session) → run x (record { memory = m; session = s; cut = false }) .answer ≤ 7
-listed x m s = most _ (answered x (record { memory = m; session = s; cut = false }))
+most : (x : Call) (m : List ℕ) (s : Session) → run x (record { memory = m; session = s; cut = false }) .answer ≤ 7
+most x m s = listed x (record { memory = m; session = s; cut = false })
 
 -- a command keeps the length of its response area
 pub area-kept : (m : List ℕ) (s : Session) (bytes random area : List ℕ) (limit : ℕ) → length (command m s bytes random area limit .response) ≡ length area
@@ -56,7 +47,7 @@ module _ (m m′ : List ℕ) (s : Session) (r : Called) where
   -- what an installation said, and the line of its record
   pub install-said : (d : List ℕ) (limit : ℕ) → (r ≡ said (installation m d limit)) × (m′ ≡ installation m d limit .memory) → r .answer ≤ 8
   unfolding run
-  install-said d limit e = rw (e .0) (omega (arith, listed (install d limit) m s))
+  install-said d limit e = rw (e .0) (omega (arith, most (install d limit) m s))
 
   pub install-runs : (p : Printed) (d x : List ℕ) (limit n : ℕ) → n ≡ limit → x ≡ d → (r ≡ said (installation m x n)) × (m′ ≡ installation m x n .memory)
       → p ≡ answerPrinted 0x49 r s → Runs (install d limit) m s p m′
@@ -66,7 +57,7 @@ module _ (m m′ : List ℕ) (s : Session) (r : Called) where
   -- the same of a start-up
   pub start-said : (limit : ℕ) → (r ≡ said (startup m limit)) × (m′ ≡ startup m limit .memory) → r .answer ≤ 8
   unfolding run
-  start-said limit e = rw (e .0) (omega (arith, listed (start limit) m s))
+  start-said limit e = rw (e .0) (omega (arith, most (start limit) m s))
 
   pub start-runs : (p : Printed) (limit n : ℕ) → n ≡ limit → (r ≡ said (startup m n)) × (m′ ≡ startup m n .memory) → p ≡ answerPrinted 0x53 r s → Runs (start limit) m s p m′
   unfolding printed line ran run moved
@@ -80,7 +71,7 @@ module _ (m m′ : List ℕ) (s : Session) (r : Called) where
 
   pub command-said : (bytes random area area′ : List ℕ) (limit : ℕ) → Sent bytes random area area′ limit → r .answer ≤ 8
   unfolding run
-  command-said bytes random area area′ limit e = rw (e .0) (omega (arith, listed (send bytes random area limit) m s))
+  command-said bytes random area area′ limit e = rw (e .0) (omega (arith, most (send bytes random area limit) m s))
 
   pub command-runs : (p : Printed) (bytes x random area area′ : List ℕ) (limit n : ℕ) → n ≡ limit → x ≡ bytes → Sent x random area area′ n
       → p ≡ responsePrinted r s area′ → Runs (send bytes random area limit) m s p m′

@@ -21,10 +21,11 @@ use Rattle.purse_spec.specs.Calls.{Run, refusal}
 use Rattle.purse_spec.specs.Installation.{installation}
 use Rattle.purse_spec.specs.Startup.{startup}
 use Rattle.purse_spec.specs.Commands.{leastArea}
-use Rattle.purse_spec.specs.History.{Call, install, start, send, State, OfBytes, run, next}
-use Rattle.purse_spec.proofs.Typed.{Typed, typed-next}
+use Rattle.purse_spec.specs.History.{Call, install, start, send, State, OfBytes, run}
+use Rattle.purse_spec.proofs.Typed.{Typed}
 use Rattle.purse_spec.proofs.Answers.{Keeps, sessionFor, areaFor, answers-keep}
 use Rattle.host.specs.Host.{sessionSize, Handed, handed, number, areaAfter, outcome, lengthTested, installCall, startCall, inSession, commandCall}
+use Rattle.host.proofs.Order.{sized-done}
 use Rattle.host.proofs.Bounds.{Small, answer-read, alone, alone-typed, installation-small, startup-small, command-small}
 
 -- the answer, as a host reads it from the number
@@ -41,13 +42,6 @@ pub record Leaves (m area response : List ℕ) (h : Handed) : Type 0 where
   pub refused : (answerOf h ≡ 0 → ⊥) → (answerOf h ≡ 7 → ⊥) → h ≡ handed (answerOf h) m area response
 
 -- ---- a run of the purse
-
--- the session of a finished call has the sizes of its type
-sized-done : (x : Call) (st : State) → Typed st → OfBytes x → run x st .answer ≡ 0 → Sized (run x st .session)
-unfolding next
-sized-done x st t f e =
-    let z = typed-next x st t f .session in
-    rw (eq-eqb (run x st .answer) 0 e) at z
 
 module _ (x : Call) (st : State) (t : Typed st) (f : OfBytes x) (b : Small (run x st)) (area : List ℕ) where
   abbrev R : Run

@@ -1,3 +1,4 @@
 pub mod Bounds
-pub mod Outcomes
+pub mod Order
 pub mod Answers
+pub mod Outcomes

@@ -24,7 +24,7 @@ use Rattle.session.specs.declared.Session.{Session}
 use Rattle.commands_spec.specs.declared.outcome.Outcome.{Outcome}
 use Rattle.commands_spec.specs.ReadRecord.{asked}
 use Rattle.commands_spec.specs.Respond.{respondTo, respond}
-use Rattle.purse_spec.specs.Calls.{Run, refusal}
+use Rattle.purse_spec.specs.Calls.{Run, refusal, awaits}
 use Rattle.purse_spec.specs.Commands.{leastArea, performed, onCard, command}
 use Rattle.purse.specs.declared.calls.Called.{Called}
 use Rattle.purse.specs.Said.{said, storeless}
@@ -58,7 +58,7 @@ module _ (m : List ℕ) (s : Session) (bytes random area : List ℕ) (limit : �
       → x ≡ recordIn m (asked bytes) → drawn ≡ field random 0 8 → o ≡ respondTo h x s bytes drawn
       → ((c : Card) → c .head .state ≡ h .state → Gives (performed c o m area limit) r m′ area′)
       → Gives (onCard (readCard m) m s bytes random area limit) r m′ area′
-  unfolding onCard respond
+  unfolding onCard awaits respond
   on-card h x drawn o m′ area′ e p n q d t f =
       let k : drawn ≡ random = d ∙ drawn-whole random n in
       rw (readable-read m e, record-asked m (asked bytes) e, ← q, ← p, ← k, ← t) (f (record { head = h; log = logIn m }) refl)

@@ -32,7 +32,7 @@ use Rattle.commands_spec.proofs.Ways.{changes}
 use Rattle.commands_spec.proofs.PinTry.{pin-pair}
 use Rattle.commands_spec.proofs.Sizes.{Sound}
 use Rattle.commands_spec.proofs.Proper.{each-proper}
-use Rattle.purse_spec.specs.Calls.{Run}
+use Rattle.purse_spec.specs.Calls.{Run, awaits}
 use Rattle.purse_spec.specs.Commands.{leastArea, plans, outcomePlan, performed, onCard, command}
 use Rattle.purse_spec.specs.History.{send, State, run}
 use Rattle.purse_spec.specs.Ledger.{statusWord}
@@ -201,5 +201,6 @@ no-free-guess st a b random area limit t f g h x y n z =
         let i : (bytes : List ℕ) → AreBytes bytes → Sound c (st .session) bytes random =
         λ bytes k. sound-of (st .memory) c (st .session) bytes random (t .memory) q (t .session) k h l
         in
-        guessed (st .memory) c (st .session) a b random area limit q (i a f) (i b g) v
-        (pin-pair c (st .session) (Tried c (st .session)) (λ u w. alike refl) (λ u w k. judges u w k refl refl) a b random (verify-named a x y) n z)
+        pick-pair (st .memory) (awaits (st .memory)) _ _ _
+        (λ r. guessed (st .memory) c (st .session) a b random area limit q (i a f) (i b g) v
+        (pin-pair c (st .session) (Tried c (st .session)) (λ u w. alike refl) (λ u w k. judges u w k refl refl) a b random (verify-named a x y) n z))

@@ -1,16 +1,17 @@
--- Installation on any memory: "a finished one leaves the fresh card of its data", "A cut installation leaves memory reading as before,
--- as no card, or as the fresh card" (here never as the last). Assumes nothing.
+-- Installation on any memory: which data are accepted, "a finished one leaves the fresh card of its data", "A cut installation leaves
+-- memory reading as before, as no card, or as the fresh card" (here never as the last). Assumes nothing.
 use mathlib.Core.Bool.{true, false≢true}
-use mathlib.Core.List.{List}
+use mathlib.Core.List.{List, _∷_, _++_}
 use mathlib.Core.Logic.{_⊎_}
 use mathlib.Core.Option.{none, some}
 use mathlib.Core.Path.{_≡_, refl, sym, ap, _∙_}
 use Prim.Native.Nat.{ℕ, _+_, _≤_, _<_}
+use native.Mathlib.Numerals.{add-one}
 use native.Mathlib.Omega.{arith}
-use borrow.Author.Tests.{leb-true, le-leb, eqb-true}
+use borrow.Author.Tests.{leb-true, le-leb, eqb-true, eq-eqb}
 use lib.Dec.{leb, eqb}
-use lib.ListN.{length, drop, length-drop}
-use lib.Seq.{getD-drop}
+use lib.ListN.{length, drop, length-drop, length-append, take-append-drop}
+use lib.Seq.{getD-drop, getD-append-add, drop-cons, drop-drop, take-all}
 use Rattle.octets.specs.Bytes.{AreBytes, byteAt, part, field, allZero}
 use Rattle.octets.proofs.Conditions.{all-true, and-both}
 use Rattle.octets.proofs.Equality.{bytes-zero}
@@ -28,7 +29,10 @@ use Rattle.card.proofs.Installation.{Installable, install-cut, install-done}
 use Rattle.commands_spec.proofs.Arrays.{field-bytes-of}
 use Rattle.purse_spec.specs.Calls.{Run, refusal}
 use Rattle.purse_spec.specs.Installation.{dataOk, fixedOf, keysOf, installation}
+use Rattle.purse_spec.specs.Reasons.{InRange}
 use Rattle.purse_spec.proofs.Runs.{installation-holds, installation-runs}
+
+-- ---- the data
 
 -- the numbers of installation data are in range
 record Ranges (d : List ℕ) : Type 0 where
@@ -60,6 +64,108 @@ ranges d e =
       most-tries = leb-true _ _ (g .1);
     }
 
+ranges-ok : (d : List ℕ) → Ranges d → dataOk d ≡ true
+unfolding dataOk
+ranges-ok d r =
+    let n = byteAt d 0 in
+    rw (
+      le-leb 5 n (r .least),
+      le-leb n 16 (r .most),
+      eq-eqb (length d) (n + 51) (r .long),
+      le-leb 1 (byteAt d (n + 1)) (r .some-log),
+      le-leb (byteAt d (n + 1)) 50 (r .most-log),
+      le-leb 3 (byteAt d (n + 2)) (r .some-tries),
+      le-leb (byteAt d (n + 2)) 15 (r .most-tries),
+    )
+
+-- where each part of data in range lies
+module _ (d : List ℕ) (g : InRange d) where
+  abbrev n : ℕ
+  n = length (g .aid)
+
+  -- behind the AID
+  abbrev behind : List ℕ
+  behind = g .size ∷ g .tries ∷ g .enc ++ (g .mac ++ g .dek)
+
+  pub aid-length : byteAt d 0 ≡ n
+  aid-length = ap (λ (l : List ℕ). byteAt l 0) (g .is)
+
+  pub data-length : length d ≡ n + 51
+  data-length =
+      let k = g .keys in
+      ap length (g .is) ∙ simp length-append (omega arith)
+
+  -- a byte behind the AID
+  behind-at : (i : ℕ) → byteAt d (n + 1 + i) ≡ byteAt behind i
+  behind-at i =
+      let e : n + 1 + i ≡ length (length (g .aid) ∷ g .aid) + i = omega arith in
+      ap (λ (l : List ℕ). byteAt l (n + 1 + i)) (g .is) ∙ ap (byteAt (length (g .aid) ∷ g .aid ++ behind)) e ∙ getD-append-add (length (g .aid) ∷ g .aid) behind i 0
+
+  pub log-size : byteAt d (n + 1) ≡ g .size
+  log-size = let e : n + 1 ≡ n + 1 + 0 = omega arith in ap (byteAt d) e ∙ behind-at 0
+
+  pub most-tries : byteAt d (n + 2) ≡ g .tries
+  most-tries = let e : n + 2 ≡ n + 1 + 1 = omega arith in ap (byteAt d) e ∙ behind-at 1
+
+-- data in range are accepted
+pub in-range : (d : List ℕ) → InRange d → dataOk d ≡ true
+in-range d g =
+    let n = aid-length d g in
+    let s : byteAt d (byteAt d 0 + 1) ≡ g .size = rw n (log-size d g) in
+    let t : byteAt d (byteAt d 0 + 2) ≡ g .tries = rw n (most-tries d g) in
+    let l = data-length d g in
+    ranges-ok d
+    (record {
+      least = (let a = g .aids in omega arith);
+      most = (let a = g .aids in omega arith);
+      long = omega arith;
+      some-log = (let a = g .sizes in omega arith);
+      most-log = (let a = g .sizes in omega arith);
+      some-tries = (let a = g .most in omega arith);
+      most-tries = (let a = g .most in omega arith);
+    })
+
+-- a byte of a string and what follows it
+cons-at : (d : List ℕ) (i k : ℕ) → i < length d → k ≡ i + 1 → drop i d ≡ byteAt d i ∷ drop k d
+cons-at d i k h e = rw (e, add-one) (drop-cons d i 0 h)
+
+-- a part of it and what follows
+part-at-front : (d : List ℕ) (at n k : ℕ) → k ≡ at + n → drop at d ≡ part d at n ++ drop k d
+part-at-front d at n k e = rw e (sym (rw (drop-drop n at d) at (take-append-drop n (drop at d))))
+
+-- and no others are
+pub only-in-range : (d : List ℕ) → dataOk d ≡ true → InRange d
+only-in-range d e =
+    let r = ranges d e in
+    let n = byteAt d 0 in
+    let l = r .long in
+    let b = r .least in
+    let k : length (part d 1 n) ≡ n = length-part d 1 n (omega arith) in
+    let last : drop (n + 35) d ≡ part d (n + 35) 16 = sym (take-all 16 (drop (n + 35) d) (rw length-drop (omega arith))) in
+    let keys : drop (n + 3) d ≡ part d (n + 3) 16 ++ (part d (n + 19) 16 ++ part d (n + 35) 16) =
+    part-at-front d (n + 3) 16 (n + 19) (omega arith)
+    ∙ ap (λ (x : List ℕ). part d (n + 3) 16 ++ x) (part-at-front d (n + 19) 16 (n + 35) (omega arith) ∙ ap (λ (x : List ℕ). part d (n + 19) 16 ++ x) last)
+    in
+    let numbers : drop (n + 1) d ≡ byteAt d (n + 1) ∷ byteAt d (n + 2) ∷ drop (n + 3) d =
+    cons-at d (n + 1) (n + 2) (omega arith) (omega arith) ∙ ap (λ (x : List ℕ). byteAt d (n + 1) ∷ x) (cons-at d (n + 2) (n + 3) (omega arith) (omega arith))
+    in
+    record {
+      aid = part d 1 n;
+      size = byteAt d (n + 1);
+      tries = byteAt d (n + 2);
+      enc = part d (n + 3) 16;
+      mac = part d (n + 19) 16;
+      dek = part d (n + 35) 16;
+      is =
+          cons-at d 0 1 (omega arith) refl ∙ rw k
+          (ap (λ (x : List ℕ). n ∷ x)
+          (part-at-front d 1 n (n + 1) (omega arith) ∙ ap (λ (x : List ℕ). part d 1 n ++ x) (numbers ∙ ap (λ (x : List ℕ). byteAt d (n + 1) ∷ byteAt d (n + 2) ∷ x) keys)));
+      aids = rw k (r .least, r .most);
+      sizes = (r .some-log, r .most-log);
+      most = (r .some-tries, r .most-tries);
+      keys = (length-part d (n + 3) 16 (omega arith), length-part d (n + 19) 16 (omega arith), length-part d (n + 35) 16 (omega arith));
+    }
+
 -- the AID is followed by zeros
 aid-ends : (d : List ℕ) (n : ℕ) → n ≤ 16 → 1 + n ≤ length d → allZero (drop n (field (part d 1 n) 0 16)) ≡ true
 aid-ends d n h k =
@@ -86,6 +192,8 @@ installable d f e =
             (le-leb _ _ (r .most), (aid-ends d n (r .most) (let l = r .long in omega arith), (le-leb _ _ (r .some-log), (le-leb _ _ (r .most-log), (le-leb _ _ (r .some-tries), (le-leb _ _ (r .most-tries), tt)))))),
           );
     }
+
+-- ---- its runs
 
 module _ (m d : List ℕ) (limit : ℕ) where
   abbrev p : List Store

@@ -1,6 +1,7 @@
 pub mod Rows
 pub mod Runs
 pub mod Installing
+pub mod Fresh
 pub mod Starting
 pub mod Names
 pub mod Performing
@@ -11,6 +12,8 @@ pub mod Responses
 pub mod Answers
 pub mod Refusals
 pub mod Counts
+pub mod Exactly
+pub mod DemandTwo
 pub mod Guess
 pub mod Booking
 pub mod Balance

@@ -18,7 +18,7 @@ use Rattle.card.specs.Changes.{installPlan}
 use Rattle.session.specs.declared.Session.{Session}
 use Rattle.session.specs.Session.{unselected}
 use Rattle.commands_spec.specs.Respond.{respond}
-use Rattle.purse_spec.specs.Calls.{Run, refusal}
+use Rattle.purse_spec.specs.Calls.{Run, awaits, refusal}
 use Rattle.purse_spec.specs.Installation.{dataOk, fixedOf, keysOf, installation}
 use Rattle.purse_spec.specs.Startup.{startup}
 use Rattle.purse_spec.specs.Commands.{leastArea, performed, onCard, command}
@@ -64,16 +64,18 @@ module _ (m : List ℕ) (P : (ℕ → Run) → Type 0) where
   startup-holds one two rest =
       sized-holds _ _ one (λ e. pick-runs P (not (readable m)) _ _ (λ t. two e (not-true (readable m) t)) (λ t. rest e (not-false (readable m) t)))
 
-  -- a command: 1, 3, 4, 2
+  -- a command: 1, 3, 4, 2, 5
   pub command-holds : (s : Session) (bytes random area : List ℕ)
       → ((length m ≡ memorySize → ⊥) → P (λ L. refusal 1 s m area))
       → (length m ≡ memorySize → length area < leastArea → P (λ L. refusal 3 s m area))
       → (length m ≡ memorySize → leastArea ≤ length area → (length random ≡ 8 → ⊥) → P (λ L. refusal 4 s m area))
       → (length m ≡ memorySize → leastArea ≤ length area → length random ≡ 8 → readCard m ≡ none → P (λ L. refusal 2 s m area))
-      → ((c : Card) → leastArea ≤ length area → length random ≡ 8 → readCard m ≡ some c → P (λ L. performed c (respond c s bytes random) m area L))
+      → ((c : Card) → leastArea ≤ length area → length random ≡ 8 → readCard m ≡ some c → awaits m ≡ true → P (λ L. refusal 5 s m area))
+      → ((c : Card) → leastArea ≤ length area → length random ≡ 8 → readCard m ≡ some c → awaits m ≡ false
+      → P (λ L. performed c (respond c s bytes random) m area L))
       → P (λ L. command m s bytes random area L)
   unfolding command onCard
-  command-holds s bytes random area one three four two rest =
+  command-holds s bytes random area one three four two five rest =
       sized-holds _ _ one
       (λ e. pick-runs P (ltb (length area) leastArea) _ _ (λ t. three e (ltb-true _ _ t))
       (λ t. pick-runs P (not (eqb (length random) 8)) _ _ (λ u. four e (ltb-false _ _ t) (eqb-false (length random) 8 (not-true _ u)))
@@ -82,7 +84,7 @@ module _ (m : List ℕ) (P : (ℕ → Run) → Type 0) where
       go : length m ≡ memorySize → leastArea ≤ length area → length random ≡ 8 → (o : Option Card) → readCard m ≡ o
           → P (λ L. onCard o m s bytes random area L)
       go e a r none q = two e a r q
-      go e a r (some c) q = rest c a r q
+      go e a r (some c) q = pick-runs P (awaits m) _ _ (λ w. five c a r q w) (λ w. rest c a r q w)
 
 -- a refusal by any of the answers 1 to 6
 abbrev pub Refused : ((ℕ → Run) → Type 0) → Session → List ℕ → List ℕ → Type 0
@@ -103,7 +105,8 @@ module _ (m : List ℕ) (P : (ℕ → Run) → Type 0) where
         → P (λ L. command m s bytes random area L)
     command-runs out rest =
         command-holds m P s bytes random area (λ e. out 1 (omega arith) (omega arith)) (λ e t. out 3 (omega arith) (omega arith))
-        (λ e t u. out 4 (omega arith) (omega arith)) (λ e t u v. out 2 (omega arith) (omega arith)) rest
+        (λ e t u. out 4 (omega arith) (omega arith)) (λ e t u v. out 2 (omega arith) (omega arith)) (λ c t u v w. out 5 (omega arith) (omega arith))
+        (λ c t u v w. rest c t u v)
 
     -- on a card in hand
     pub command-on : (c : Card) → readCard m ≡ some c → Refused P s m area

@@ -19,7 +19,7 @@ use Rattle.session.specs.Session.{unselected}
 use Rattle.commands_spec.specs.declared.outcome.Outcome.{Outcome}
 use Rattle.commands_spec.specs.Outcomes.{changesOf}
 use Rattle.commands_spec.specs.Respond.{respond}
-use Rattle.purse_spec.specs.Calls.{Run, refusal}
+use Rattle.purse_spec.specs.Calls.{Run, awaits, refusal}
 
 -- "response area under 32 bytes"
 abbrev pub leastArea : ℕ
@@ -42,10 +42,11 @@ performed c o m area limit =
     (record { answer = 7; count = limit; session = unselected; memory = leaves p limit m; length = 0; response = area })
     (record { answer = 0; count = length p; session = o .session; memory = leaves p limit m; length = length (content (o .reply)); response = paste area 0 (content (o .reply)) })
 
--- "memory reads as no card": 2
+-- "memory reads as no card": 2; "memory awaits a start-up": 5
 unfoldable pub onCard : Option Card → List ℕ → Session → List ℕ → List ℕ → List ℕ → ℕ → Run
 onCard none m s command random area limit = refusal 2 s m area
-onCard (some c) m s command random area limit = performed c (respond c s command random) m area limit
+onCard (some c) m s command random area limit =
+    pick (awaits m) (refusal 5 s m area) (performed c (respond c s command random) m area limit)
 
 -- answers 1, 3, 4, then the card
 unfoldable pub command : List ℕ → Session → List ℕ → List ℕ → List ℕ → ℕ → Run

@@ -3,4 +3,5 @@ pub mod Installation
 pub mod Startup
 pub mod Commands
 pub mod History
+pub mod Reasons
 pub mod Ledger
