@@ -25,7 +25,7 @@ use Rattle.purse_spec.specs.History.{Call, install, start, send, State, OfBytes
 use Rattle.purse_spec.specs.Reasons.{First, NoReason, reasons}
 use Rattle.purse_spec.proofs.Typed.{Typed, typed-next}
 use Rattle.purse_spec.proofs.Answers.{areaFor}
-use Rattle.purse_spec.proofs.Exactly.{refusal-number, refused-whole}
+use Rattle.purse_spec.proofs.Answered.{refusal-number, refused-whole}
 use Rattle.host.specs.Host.{sessionSize, Handed, handed, number, areaAfter, outcome, lengthTested, installCall, startCall, inSession, commandCall}
 use Rattle.host.specs.Reasons.{hosted, areaReasons, cardReasons, hostReasons}
 use Rattle.host.proofs.Bounds.{alone, alone-typed}

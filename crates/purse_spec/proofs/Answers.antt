@@ -59,7 +59,7 @@ performed-keeps c o m s area limit =
     let p = outcomePlan c o m in
     pick-holds (Keeps m s area) (ltb limit (length p)) _ _
     (λ t. record { refused = λ y z. absurd (z refl); cut = λ z. (refl, refl, refl); memory = leaves-length p limit m; response = refl })
-    (λ t. record { refused = λ y z. absurd (y refl); cut = λ z. absurd (omega arith); memory = leaves-length p limit m; response = length-paste area 0 (content (o .reply)) })
+    (λ t. record { refused = λ y z. absurd (y refl); cut = λ z. absurd (omega arith); memory = leaves-length p limit m; response = length-paste area _ (content (o .reply)) })
 
 -- every call
 pub answers-keep : (x : Call) (st : State) → Keeps (st .memory) (sessionFor x st) (areaFor x) (run x st)

@@ -31,7 +31,7 @@ use Rattle.purse_spec.proofs.Rows.{leaves-nothing}
 use Rattle.purse_spec.proofs.Runs.{Refused, installation-runs, startup-runs, command-runs}
 use Rattle.purse_spec.proofs.Installing.{installable}
 use Rattle.purse_spec.proofs.Performing.{performed-few}
-use Rattle.purse_spec.proofs.Typed.{Typed, sound-of}
+use Rattle.purse_spec.proofs.Sound.{Typed, sound-of}
 
 -- ---- a call is one refusal at every limit, or the stores of one plan
 

@@ -22,7 +22,7 @@ use Rattle.purse_spec.specs.Commands.{outcomePlan, performed, command}
 use Rattle.purse_spec.specs.History.{Call, send, State, OfBytes, run, next, after, OnlyStarts}
 use Rattle.purse_spec.proofs.Runs.{command-on}
 use Rattle.purse_spec.proofs.Performing.{Fewer, CutCard, before, fewer, performed-done, performed-cut}
-use Rattle.purse_spec.proofs.Typed.{Typed, sound-of}
+use Rattle.purse_spec.proofs.Sound.{Typed, sound-of}
 use Rattle.purse_spec.proofs.Starting.{starts-keep}
 
 -- ---- the command

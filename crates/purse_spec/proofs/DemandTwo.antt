@@ -20,10 +20,10 @@ use Rattle.purse_spec.specs.Calls.{Run, awaits}
 use Rattle.purse_spec.specs.History.{Call, send, State, OfBytes, run}
 use Rattle.purse_spec.specs.Ledger.{statusWord}
 use Rattle.purse_spec.specs.Reasons.{NoReason, reasons, limitOf, storesOf, finished}
-use Rattle.purse_spec.proofs.Typed.{Typed, sound-of}
+use Rattle.purse_spec.proofs.Sound.{Typed, sound-of}
 use Rattle.purse_spec.proofs.Cut.{command-left}
 use Rattle.purse_spec.proofs.Responses.{responds}
-use Rattle.purse_spec.proofs.Exactly.{exactly, few-stores}
+use Rattle.purse_spec.proofs.Answered.{exactly, few-stores}
 
 -- of a command on the card c in the session s, by what `respond` says of it
 pub record Meets (c : Card) (s : Session) (bytes random area : List ℕ) (r : Run) : Type 0 where

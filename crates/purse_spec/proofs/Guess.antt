@@ -39,7 +39,7 @@ use Rattle.purse_spec.specs.Ledger.{statusWord}
 use Rattle.purse_spec.proofs.Rows.{EachProper, first-proper, others-proper, plans-cut}
 use Rattle.purse_spec.proofs.Names.{verify-named}
 use Rattle.purse_spec.proofs.Performing.{Fewer, performed-done}
-use Rattle.purse_spec.proofs.Typed.{Typed, sound-of}
+use Rattle.purse_spec.proofs.Sound.{Typed, sound-of}
 use Rattle.purse_spec.proofs.Responses.{performed-responds}
 use Rattle.purse_spec.proofs.Counts.{Follows, performed-follows}
 

@@ -1,21 +1,20 @@
--- Document 01, "Readable": "Any call on readable memory, finished or cut, leaves it readable, a cut installation apart. Only a cut run
--- may make memory await a start-up. A finished start-up keeps the reading and leaves nothing awaiting." Assumes nothing.
-use mathlib.Core.Bool.{true, false}
+-- Document 01, "Readable": "Any call on readable memory, finished or cut, leaves it readable, a cut installation apart", and "A finished
+-- start-up keeps the reading". Assumes nothing.
+use mathlib.Core.Bool.{true}
 use mathlib.Core.List.{List, []}
 use mathlib.Core.Path.{_≡_, refl, ap}
 use Prim.Native.Nat.{ℕ}
-use native.Mathlib.Omega.{arith}
 use Rattle.octets.specs.Bytes.{AreBytes}
 use Rattle.card.specs.Reading.{readable, readCard}
 use Rattle.card.proofs.Cards.{readable-read, read-readable}
 use Rattle.session.specs.declared.Session.{Session}
 use Rattle.session.specs.Session.{unselected}
-use Rattle.purse_spec.specs.Calls.{Run, awaits, refusal}
+use Rattle.purse_spec.specs.Calls.{Run, refusal}
 use Rattle.purse_spec.specs.Installation.{installation}
 use Rattle.purse_spec.specs.History.{Call, install, start, send, State, OfBytes, run, isInstall}
 use Rattle.purse_spec.proofs.Runs.{installation-runs}
 use Rattle.purse_spec.proofs.Installing.{installed-reads}
-use Rattle.purse_spec.proofs.Typed.{Typed, sound-of}
+use Rattle.purse_spec.proofs.Sound.{Typed, sound-of}
 use Rattle.purse_spec.proofs.Cut.{command-left}
 use Rattle.purse_spec.proofs.Starting.{startup-keeps}
 
@@ -47,19 +46,3 @@ readable-stays (send bytes random area limit) st t f q n =
     let e = readable-read m q in
     let r = command-left m _ s bytes random area limit e (λ l. sound-of m _ s bytes random (t .memory) e (t .session) (f .0) (f .1) l) in
     read-readable _ (r .0) (r .1)
-
--- ---- what awaits a start-up
-
--- "Only a cut run may make memory await a start-up"
-pub only-cut-awaits : (x : Call) (st : State) → (run x st .answer ≡ 7 → ⊥) → awaits (run x st .memory) ≡ false
-unfolding awaits
-only-cut-awaits x st n = refl
-
--- "A finished start-up .. leaves nothing awaiting"
-pub started-awaits-nothing : (limit : ℕ) (st : State) → run (start limit) st .answer ≡ 0 → awaits (run (start limit) st .memory) ≡ false
-started-awaits-nothing limit st e = only-cut-awaits (start limit) st (λ z. omega arith)
-
--- "a finished one leaves the fresh card of its data and nothing awaiting", of an installation
-pub installed-awaits-nothing : (d : List ℕ) (limit : ℕ) (st : State) → run (install d limit) st .answer ≡ 0
-    → awaits (run (install d limit) st .memory) ≡ false
-installed-awaits-nothing d limit st e = only-cut-awaits (install d limit) st (λ z. omega arith)

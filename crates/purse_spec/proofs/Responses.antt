@@ -26,7 +26,7 @@ use Rattle.purse_spec.specs.Commands.{leastArea, outcomePlan, performed}
 use Rattle.purse_spec.specs.History.{send, State, OfBytes, run}
 use Rattle.purse_spec.specs.Ledger.{statusWord}
 use Rattle.purse_spec.proofs.Runs.{command-on}
-use Rattle.purse_spec.proofs.Typed.{Typed, sound-of}
+use Rattle.purse_spec.proofs.Sound.{Typed, sound-of}
 
 -- an answer that ends in a word, laid over the front of an area that it fits
 pub last-word : (answer area : List ℕ) (w : ℕ) → 2 ≤ length answer → length answer ≤ length area → drop (length answer - 2) answer ≡ word w

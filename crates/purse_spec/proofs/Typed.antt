@@ -1,41 +1,26 @@
 -- What the types of the code's areas and values promise of a state, which every call keeps. Assumes nothing.
 use mathlib.Core.List.{List, [], _∷_}
-use mathlib.Core.Option.{some}
-use mathlib.Core.Path.{_≡_}
 use Prim.Native.Nat.{ℕ}
 use lib.Dec.{ltb, eqb}
 use lib.ListN.{length}
 use Rattle.octets.specs.Bytes.{AreBytes}
-use Rattle.octets.proofs.Rules.{pick-holds}
-use Rattle.card.specs.Card.{Card}
-use Rattle.card.specs.Reading.{readCard}
-use Rattle.card.proofs.Cards.{read-proper}
 use Rattle.card.proofs.Bounds.{install-bytes}
 use Rattle.session.specs.declared.Session.{Session}
 use Rattle.session.proofs.Sizes.{Sized, unselected-sized}
-use Rattle.commands_spec.proofs.Sizes.{Sound, session-sized}
+use Rattle.commands_spec.proofs.Steps.{pick-holds}
+use Rattle.commands_spec.proofs.Sizes.{session-sized}
 use Rattle.commands_spec.specs.Respond.{respond}
 use Rattle.purse_spec.specs.Calls.{Run, refusal}
 use Rattle.purse_spec.specs.Installation.{fixedOf, keysOf, installation}
 use Rattle.purse_spec.specs.Startup.{startup}
 use Rattle.purse_spec.specs.Commands.{outcomePlan, performed, command}
 use Rattle.purse_spec.specs.History.{Call, install, start, send, State, OfBytes, AllOfBytes, run, next, after}
+pub use Rattle.purse_spec.proofs.Sound.{Typed, sound-of}
 use Rattle.purse_spec.proofs.Runs.{installation-runs, startup-runs, command-runs}
 use Rattle.purse_spec.proofs.Installing.{installable}
 use Rattle.purse_spec.proofs.Performing.{performed-bytes}
 
--- memory is of bytes, and the session's arrays have their sizes
-pub record Typed (st : State) : Type 0 where
-  pub memory : AreBytes (st .memory)
-  pub session : Sized (st .session)
-
--- what the laws of the commands ask, of the card that memory reads as
-pub sound-of : (m : List ℕ) (c : Card) (s : Session) (bytes random : List ℕ) → AreBytes m → readCard m ≡ some c → Sized s → AreBytes bytes → AreBytes random
-    → length random ≡ 8 → Sound c s bytes random
-sound-of m c s bytes random f e z a b n =
-    record { proper = read-proper m c f e; sized = z; bytes = a; drawn = record { long = n; bytes = b } }
-
--- the same of what a call gives
+-- what a call gives: memory of bytes, and a session of its sizes
 record TypedRun (r : Run) : Type 0 where
   pub memory : AreBytes (r .memory)
   pub session : Sized (r .session)

@@ -43,14 +43,15 @@ pub record AmountOf (bytes : List ℕ) (n : Note) : Type 0 where
 pub record Books (bytes : List ℕ) (r : Run) (grew : Bool) (b c : Ledger) : Type 0 where
   -- INITIALIZE TRANSACTION with 9000
   pub noted : r .answer ≡ 0 → Begins bytes 0x94 0x44 → statusWord r ≡ 0x9000 → (n : Note) × AmountOf bytes n × Notes (some n) b c
-  -- COMPLETE TRANSACTION with 9000, and a cut one with the number grown
+  -- COMPLETE TRANSACTION with 9000
   pub completed : r .answer ≡ 0 → Begins bytes 0x94 0x46 → statusWord r ≡ 0x9000 → Adds b c
-  pub cut : r .answer ≡ 7 → Begins bytes 0x94 0x46 → grew ≡ true → Adds b c
   -- others, finished
   pub dropped : r .answer ≡ 0 → (Begins bytes 0x94 0x44 → statusWord r ≡ 0x9000 → ⊥) → (Begins bytes 0x94 0x46 → statusWord r ≡ 0x9000 → ⊥)
       → Notes none b c
   -- others, not finished
   pub nothing : (r .answer ≡ 0 → ⊥) → (r .answer ≡ 7 → Begins bytes 0x94 0x46 → grew ≡ true → ⊥) → c ≡ b
+  -- a cut COMPLETE TRANSACTION behind which the number has grown
+  pub cut : r .answer ≡ 7 → Begins bytes 0x94 0x46 → grew ≡ true → Adds b c
 
 -- ---- each call
 
@@ -121,9 +122,6 @@ module _ (bytes : List ℕ) (r : Run) (grew : Bool) (b : Ledger) where
               eq-eqb (statusWord r) 0x9000 w,
             )
             (adds b (b .note) refl);
-        cut = λ e h g.
-            rw (ne-eqb (r .answer) 0 (omega arith), eq-eqb (r .answer) 7 e, eq-eqb (byteAt bytes 0) 0x94 (h .0), eq-eqb (byteAt bytes 1) 0x46 (h .1), g)
-            (adds b (b .note) refl);
         dropped = λ e x y. rw (eq-eqb (r .answer) 0 e, not-so 0x44 x, not-so 0x46 y) (record { credits = refl; debits = refl; note = refl });
         nothing = λ e x.
             rw (
@@ -131,4 +129,7 @@ module _ (bytes : List ℕ) (r : Run) (grew : Bool) (b : Ledger) where
               no-and (eqb (r .answer) 7 && (eqb (byteAt bytes 0) 0x94 && eqb (byteAt bytes 1) 0x46)) grew
                   (λ t g. let u = and-both (eqb (r .answer) 7) (eqb (byteAt bytes 0) 0x94 && eqb (byteAt bytes 1) 0x46) t in x (eqb-true _ _ (u .0)) (begins 0x46 (u .1)) g),
             );
+        cut = λ e h g.
+            rw (ne-eqb (r .answer) 0 (omega arith), eq-eqb (r .answer) 7 e, eq-eqb (byteAt bytes 0) 0x94 (h .0), eq-eqb (byteAt bytes 1) 0x46 (h .1), g)
+            (adds b (b .note) refl);
       }

@@ -23,10 +23,10 @@ use Rattle.purse_spec.specs.Installation.{fixedOf, keysOf}
 use Rattle.purse_spec.specs.Commands.{performed}
 use Rattle.purse_spec.specs.History.{Call, install, start, send, State, limited, OfBytes, run}
 use Rattle.purse_spec.specs.Reasons.{Rule, First, NoReason, reasons, limitOf, storesOf, Due, refused, cut, finished}
+use Rattle.purse_spec.proofs.Answers.{sessionFor, areaFor, answers-keep}
 use Rattle.purse_spec.proofs.Runs.{installation-holds, startup-holds, command-holds}
 use Rattle.purse_spec.proofs.Installing.{in-range, only-in-range}
-use Rattle.purse_spec.proofs.Typed.{Typed}
-use Rattle.purse_spec.proofs.Answers.{sessionFor, areaFor, answers-keep}
+use Rattle.purse_spec.proofs.Sound.{Typed}
 use Rattle.purse_spec.proofs.Counts.{Shape, refuses, stores, shape}
 
 -- ---- rules in a row
