@@ -1,3 +1,4 @@
+pub mod AsInstalled
 pub mod Ring
 pub mod RoundTrip
 pub mod Ranges

@@ -1,17 +1,18 @@
 -- Installation data in range are accepted on any memory of 4,096 bytes, and leave the fresh card: "All else starts undefined and zero,
 -- tries full", spelled out by fields. Assumes nothing.
-use mathlib.Core.Bool.{true, false}
+use mathlib.Core.Bool.{true}
 use mathlib.Core.List.{List, [], _∷_, _++_, append-assoc}
 use mathlib.Core.Option.{some}
 use mathlib.Core.Path.{_≡_, refl, sym, ap, _∙_}
-use Prim.Native.Nat.{ℕ, _+_, _-_, _≤_, _<_}
+use Prim.Native.Nat.{ℕ, _+_, _-_, _≤_}
 use native.Mathlib.Omega.{arith}
-use lib.ListN.{length, getD, drop, take, length-append, length-replicate, getD-replicate, replicate-append-replicate}
+use lib.ListN.{length, drop, take, length-append, length-replicate, replicate-append-replicate}
 use lib.Seq.{take-at, take-all, drop-at, drop-drop}
 use Rattle.octets.specs.Bytes.{AreBytes, byteAt, part, field, zeros}
 use Rattle.octets.proofs.Parts.{field-part, part-between}
-use Rattle.card.specs.Card.{Card, void, freshHead, fresh}
+use Rattle.card.specs.Card.{Card, freshHead, fresh}
 use Rattle.card.specs.Reading.{readCard}
+use Rattle.card.proofs.AsInstalled.{AsInstalled, as-installed}
 use Rattle.purse_spec.specs.Installation.{fixedOf, keysOf}
 use Rattle.purse_spec.specs.History.{install, State, run}
 use Rattle.purse_spec.specs.Reasons.{InRange}
@@ -28,26 +29,8 @@ pub record Fresh {d : List ℕ} (g : InRange d) (c : Card) : Type 0 where
   pub enc : c .head .shared .admin .enc ≡ g .enc
   pub mac : c .head .shared .admin .mac ≡ g .mac
   pub dek : c .head .shared .admin .dek ≡ g .dek
-  -- "tries full", number and balance zero
-  pub tries : c .head .state .tries ≡ g .tries
-  pub number : c .head .state .number ≡ 0
-  pub balance : c .head .state .balance ≡ 0
-  -- nothing personalized
-  pub personalized : c .head .purse .parameters .personalized ≡ false
-  pub identifier : c .head .purse .parameters .identifier ≡ zeros 4
-  pub currency : c .head .purse .parameters .currency ≡ 0
-  pub maxbalance : c .head .purse .parameters .maxbalance ≡ 0
-  pub maxdebit : c .head .purse .parameters .maxdebit ≡ 0
-  pub maxnumber : c .head .shared .maxnumber ≡ 0
-  -- undefined: bank information, agent, key sets 1 and 2, PIN
-  pub bank : c .head .purse .parameters .bank .defined ≡ false
-  pub agent : c .head .purse .parameters .agent .length ≡ 0
-  pub debit : c .head .purse .debit .defined ≡ false
-  pub credit : c .head .purse .credit .defined ≡ false
-  pub pin : c .head .pin .defined ≡ false
-  -- and the log, of which every record is void
-  pub records : length (c .log) ≡ g .size
-  pub void : (k : ℕ) → k < g .size → getD (c .log) k [] ≡ zeros 24
+  -- and all else "undefined and zero, tries full"
+  pub starts : AsInstalled (c .head .fixed) (c .head .shared .admin) c
 
 -- ---- the data
 
@@ -103,22 +86,7 @@ module _ (d : List ℕ) (g : InRange d) where
         enc = field-part d at 16 (omega arith) ∙ ap (take 16) keys-there ∙ take-at (g .enc) (g .mac ++ g .dek) 16 (g .keys .0);
         mac = field-part d (at + 16) 16 (omega arith) ∙ ap (take 16) mac-there ∙ take-at (g .mac) (g .dek) 16 (g .keys .1);
         dek = field-part d (at + 32) 16 (omega arith) ∙ ap (take 16) dek-there ∙ take-all 16 (g .dek) (let k = g .keys .2 in omega arith);
-        tries = t;
-        number = refl;
-        balance = refl;
-        personalized = refl;
-        identifier = refl;
-        currency = refl;
-        maxbalance = refl;
-        maxdebit = refl;
-        maxnumber = refl;
-        bank = refl;
-        agent = refl;
-        debit = refl;
-        credit = refl;
-        pin = refl;
-        records = length-replicate (byteAt d (byteAt d 0 + 1)) void ∙ s;
-        void = λ k h. getD-replicate (byteAt d (byteAt d 0 + 1)) k void [] (omega arith);
+        starts = as-installed (fixedOf d) (keysOf d);
       }
 
 -- ---- the law
