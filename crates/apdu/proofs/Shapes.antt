@@ -12,14 +12,14 @@ use lib.Dec.{ltb, eqb}
 use lib.ListN.{length, take, drop, length-append, length-drop, take-append-drop}
 use lib.Seq.{length-take-le}
 use Rattle.octets.specs.Bytes.{byteAt}
-use Rattle.octets.proofs.Rules.{or-left, or-right}
+use Rattle.octets.proofs.Rules.{or-left, or-right, pick-holds}
 use Rattle.octets.proofs.Parts.{part-between}
 use Rattle.apdu.specs.declared.parsing.Apdu.{Apdu}
 use Rattle.apdu.specs.declared.parsing.Parsed.{Parsed}
 use Rattle.apdu.specs.declared.parsing.Parsed.the-variants.{Command, WrongLength}
 use Rattle.apdu.specs.Parsing.{headed, parsed, dataOf}
 use Rattle.apdu.proofs.Within.{parsed-leads}
-use Rattle.apdu.proofs.Table.{pick-holds, one-of}
+use Rattle.apdu.proofs.Table.{one-of}
 
 -- the header that leads the bytes c, with lc bytes of data
 abbrev pub header : List ℕ → ℕ → Apdu

@@ -8,7 +8,8 @@ use native.Mathlib.Omega.{arith}
 use borrow.Author.Tests.{leb-true, le-leb, eqb-true, eqb-false, eq-eqb, ne-eqb}
 use lib.Dec.{leb, eqb}
 use Rattle.octets.specs.Choice.{pick}
-use Rattle.octets.proofs.Rules.{or-left, or-right, and-yes}
+use Rattle.octets.proofs.Conditions.{and-both}
+use Rattle.octets.proofs.Rules.{or-left, or-right, and-yes, pick-holds}
 use Rattle.apdu.specs.declared.instructions.Plain.{Plain}
 use Rattle.apdu.specs.declared.instructions.Plain.the-variants.{Select, InitializeUpdate, ExternalAuthenticate, VerifyPin, GetData, ReadRecord}
 use Rattle.apdu.specs.declared.instructions.Signed.{Signed}
@@ -78,11 +79,6 @@ coded UnknownInstruction cla ins (class84 e, p, g) =
     rw (e, ne-eqb ins 0x82 (λ f. p ExternalAuthenticate (e, f)), ne-eqb ins 0xD8 (λ f. g PutKey (e, f)), ne-eqb ins 0x24 (λ f. g PinChange (e, f)), ne-eqb ins 0xE2 (λ f. g StoreData (e, f)), ne-eqb ins 0xDA (λ f. g PutData (e, f)))
 coded UnknownInstruction cla ins (class94 e, p, g) =
     rw (e, ne-eqb ins 0x20 (λ f. p VerifyPin (e, f)), ne-eqb ins 0x44 (λ f. g InitializeTransaction (e, f)), ne-eqb ins 0x46 (λ f. g CompleteTransaction (e, f)))
-
--- what holds of both branches holds of the choice
-pub pick-holds : {A : Type 0} (P : A → Type 0) (b : Bool) (x y : A) → (b ≡ true → P x) → (b ≡ false → P y) → P (pick b x y)
-pick-holds P true x y f g = f refl
-pick-holds P false x y f g = g refl
 
 -- what the tests of a row tell: a command's two bytes, a known class, no known class
 abbrev Told : ℕ → ℕ → Instruction → Type 0
@@ -165,11 +161,6 @@ SignedP1P2 InitializeTransaction p1 p2 = (p1 ≤ 0x02) × (p2 ≡ 0x00)
 SignedP1P2 CompleteTransaction p1 p2 = (p1 ≡ 0x00) × (p2 ≡ 0x00)
 SignedP1P2 PutData p1 p2 = (p1 ≡ 0x02) × Tag p2
 
--- two tests that hold together
-both : (a b : Bool) → (a && b) ≡ true → (a ≡ true) × (b ≡ true)
-both true b e = (refl, e)
-both false b e = absurd (false≢true e)
-
 -- one of two
 pub one-of : (a b : Bool) → (a || b) ≡ true → (a ≡ true) ⊎ (b ≡ true)
 one-of true b e = inl refl
@@ -178,13 +169,13 @@ one-of false b e = inr e
 pair : (p1 p2 x y : ℕ) → (are p1 p2 x y ≡ true) ↔ ((p1 ≡ x) × (p2 ≡ y))
 unfolding are
 pair p1 p2 x y = (
-  (λ e. let b = both (eqb p1 x) (eqb p2 y) e in (eqb-true p1 x (b .0), eqb-true p2 y (b .1))),
+  (λ e. let b = and-both (eqb p1 x) (eqb p2 y) e in (eqb-true p1 x (b .0), eqb-true p2 y (b .1))),
   (λ c. and-yes (eqb p1 x) (eqb p2 y) (eq-eqb p1 x (c .0)) (eq-eqb p2 y (c .1))),
 )
 
 between : (a n b : ℕ) → ((leb a n && leb n b) ≡ true) ↔ ((a ≤ n) × (n ≤ b))
 between a n b = (
-  (λ e. let h = both (leb a n) (leb n b) e in (leb-true a n (h .0), leb-true n b (h .1))),
+  (λ e. let h = and-both (leb a n) (leb n b) e in (leb-true a n (h .0), leb-true n b (h .1))),
   (λ c. and-yes (leb a n) (leb n b) (le-leb a n (c .0)) (le-leb n b (c .1))),
 )
 
@@ -225,32 +216,32 @@ pub plain-parameters : (p : Plain) (p1 p2 : ℕ) → (plainParameters p p1 p2 �
 unfolding plainParameters
 plain-parameters Select p1 p2 = pair p1 p2 0x04 0x00
 plain-parameters InitializeUpdate p1 p2 = (
-  (λ e. let b = both _ _ e in let n = set-is p1 .0 (b .1) in (n .0, n .1, eqb-true _ _ (b .0))),
+  (λ e. let b = and-both _ _ e in let n = set-is p1 .0 (b .1) in (n .0, n .1, eqb-true _ _ (b .0))),
   (λ c. and-yes _ _ (eq-eqb _ _ (c .2)) (set-is p1 .1 (c .0, c .1))),
 )
 plain-parameters ExternalAuthenticate p1 p2 = (
-  (λ e. let b = both _ _ e in (either p1 0x01 0x11 .0 (b .1), eqb-true _ _ (b .0))),
+  (λ e. let b = and-both _ _ e in (either p1 0x01 0x11 .0 (b .1), eqb-true _ _ (b .0))),
   (λ c. and-yes _ _ (eq-eqb _ _ (c .1)) (either p1 0x01 0x11 .1 (c .0))),
 )
 plain-parameters VerifyPin p1 p2 = pair p1 p2 0x00 0x00
 plain-parameters GetData p1 p2 =
-    ((λ e. let b = both _ _ e in (eqb-true _ _ (b .0), tags p2 .0 (b .1))), (λ c. and-yes _ _ (eq-eqb _ _ (c .0)) (tags p2 .1 (c .1))))
+    ((λ e. let b = and-both _ _ e in (eqb-true _ _ (b .0), tags p2 .0 (b .1))), (λ c. and-yes _ _ (eq-eqb _ _ (c .0)) (tags p2 .1 (c .1))))
 plain-parameters ReadRecord p1 p2 = equal p2 0x04
 
 -- and of each signed one
 pub signed-parameters : (g : Signed) (p1 p2 : ℕ) → (signedParameters g p1 p2 ≡ true) ↔ SignedP1P2 g p1 p2
 unfolding signedParameters
 signed-parameters PutKey p1 p2 = (
-  (λ e. let b = both _ _ e in let n = set-is p2 .0 (b .1) in (eqb-true _ _ (b .0), n .0, n .1)),
+  (λ e. let b = and-both _ _ e in let n = set-is p2 .0 (b .1) in (eqb-true _ _ (b .0), n .0, n .1)),
   (λ c. and-yes _ _ (eq-eqb _ _ (c .0)) (set-is p2 .1 (c .1, c .2))),
 )
 signed-parameters PinChange p1 p2 = pair p1 p2 0x00 0x00
 signed-parameters StoreData p1 p2 = pair p1 p2 0x80 0x00
 signed-parameters InitializeTransaction p1 p2 =
-    ((λ e. let b = both _ _ e in (leb-true _ _ (b .1), eqb-true _ _ (b .0))), (λ c. and-yes _ _ (eq-eqb _ _ (c .1)) (le-leb _ _ (c .0))))
+    ((λ e. let b = and-both _ _ e in (leb-true _ _ (b .1), eqb-true _ _ (b .0))), (λ c. and-yes _ _ (eq-eqb _ _ (c .1)) (le-leb _ _ (c .0))))
 signed-parameters CompleteTransaction p1 p2 = pair p1 p2 0x00 0x00
 signed-parameters PutData p1 p2 =
-    ((λ e. let b = both _ _ e in (eqb-true _ _ (b .0), tags p2 .0 (b .1))), (λ c. and-yes _ _ (eq-eqb _ _ (c .0)) (tags p2 .1 (c .1))))
+    ((λ e. let b = and-both _ _ e in (eqb-true _ _ (b .0), tags p2 .0 (b .1))), (λ c. and-yes _ _ (eq-eqb _ _ (c .0)) (tags p2 .1 (c .1))))
 
 -- "P1 1 to log size .. Other P1: 6A83", of READ RECORD alone
 abbrev pub Logged : Plain → ℕ → ℕ → Type 0

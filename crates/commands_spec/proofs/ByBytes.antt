@@ -10,6 +10,7 @@ use borrow.Author.Tests.{eqb-true, eqb-false}
 use lib.Dec.{eqb}
 use lib.ListN.{length, getD, length-append}
 use Rattle.octets.specs.Bytes.{byteAt}
+use Rattle.octets.proofs.Rules.{pick-holds}
 use Rattle.card.specs.declared.head.Head.{Head}
 use Rattle.card.specs.Card.{Card, void}
 use Rattle.session.specs.declared.Set.{Set}
@@ -28,7 +29,7 @@ use Rattle.apdu.specs.declared.instructions.Instruction.the-variants.{IsPlain, 
 use Rattle.apdu.specs.Parsing.{headed, parsed, dataOf}
 use Rattle.apdu.specs.Instructions.{instruction}
 use Rattle.apdu.specs.Early.{plainStatus, signedStatus}
-use Rattle.apdu.proofs.Table.{pick-holds, SignedCode, PlainP1P2, SignedP1P2, Logged, PlainLc, SignedLc, instructions}
+use Rattle.apdu.proofs.Table.{SignedCode, PlainP1P2, SignedP1P2, Logged, PlainLc, SignedLc, instructions}
 use Rattle.apdu.proofs.Shapes.{header, header-is, Shape, four, five, full, by-shape, parsed-bare, parsed-full}
 use Rattle.apdu.proofs.Order.{Decides, unselected, parameters, recorded, long, passed, Fits, Selected, fits, goes-on, plain-order, signed-order}
 use Rattle.commands_spec.specs.declared.outcome.Outcome.{Outcome}

@@ -15,7 +15,7 @@ use Rattle.octets.specs.Buffers.{content}
 use Rattle.octets.proofs.Equality.{equal-same, same-equal, differ-same}
 use Rattle.octets.proofs.Holding.{content-holding}
 use Rattle.octets.proofs.Parts.{part-part, part-between}
-use Rattle.octets.proofs.Rules.{and-yes, and-right}
+use Rattle.octets.proofs.Rules.{and-yes, and-right, pick-holds}
 use Rattle.des_spec.specs.Modes.{signature}
 use Rattle.card.specs.declared.head.Head.{Head}
 use Rattle.card.specs.Card.{Card, void}
@@ -38,7 +38,7 @@ use Rattle.apdu.specs.declared.instructions.Signed.the-variants.{PutKey, PinCha
 use Rattle.apdu.specs.declared.instructions.Instruction.the-variants.{IsPlain}
 use Rattle.apdu.specs.Parsing.{dataOf}
 use Rattle.apdu.specs.Lengths.{macSize}
-use Rattle.apdu.proofs.Table.{pick-holds, instructions}
+use Rattle.apdu.proofs.Table.{instructions}
 use Rattle.apdu.proofs.Shapes.{header}
 use Rattle.commands_spec.specs.declared.outcome.Outcome.{Outcome}
 use Rattle.commands_spec.specs.Outcomes.{refused, done, decided}

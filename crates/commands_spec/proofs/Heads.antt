@@ -26,6 +26,7 @@ use Rattle.apdu.specs.declared.instructions.Signed.the-variants.{PutKey, PinCha
 use Rattle.apdu.specs.Parsing.{dataOf}
 use Rattle.apdu.specs.Lengths.{macSize}
 use Rattle.card.specs.declared.head.KeySet.{KeySet}
+use Rattle.apdu.proofs.Shapes.{header}
 use Rattle.commands_spec.specs.declared.outcome.Effect.the-variants.{Unchanged, ParametersOnly}
 use Rattle.commands_spec.specs.declared.outcome.Outcome.{Outcome}
 use Rattle.commands_spec.specs.declared.store.Stored.{Stored}
@@ -45,7 +46,7 @@ use Rattle.commands_spec.specs.GetData.{getDataOf}
 use Rattle.commands_spec.specs.PutData.{putDataOf}
 use Rattle.commands_spec.specs.ReadRecord.{asked, readRecordOf}
 use Rattle.commands_spec.specs.Respond.{plainOf, signedOf, respond, cardAfter}
-use Rattle.commands_spec.proofs.Steps.{decided-either, header, macOf, Passed, Accepted, respond-holds}
+use Rattle.commands_spec.proofs.Steps.{decided-either, macOf, Passed, Accepted, respond-holds}
 use Rattle.commands_spec.proofs.Ways.{afterwards}
 
 -- ---- what parameters, keys and PIN leave alone

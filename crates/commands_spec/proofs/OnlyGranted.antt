@@ -28,13 +28,14 @@ use Rattle.apdu.specs.Parsing.{dataOf}
 use Rattle.apdu.specs.Instructions.{instruction, of94}
 use Rattle.apdu.specs.Parameters.{signedParameters}
 use Rattle.apdu.specs.Lengths.{macSize, signedLength}
+use Rattle.apdu.proofs.Shapes.{header}
 use Rattle.commands_spec.specs.declared.outcome.Outcome.{Outcome}
 use Rattle.commands_spec.specs.Outcomes.{refused, decided}
 use Rattle.commands_spec.specs.Words.{isOne, refusals}
 use Rattle.commands_spec.specs.InitializeTransaction.{lacks, needed, initializeJudged, initializeTransactionOf}
 use Rattle.commands_spec.specs.Respond.{signedOf, named, respond}
 use Rattle.commands_spec.specs.Allowed.{Entitled, Allows}
-use Rattle.commands_spec.proofs.Steps.{early, early-refusal, header, macOf, Accepted, respond-holds}
+use Rattle.commands_spec.proofs.Steps.{early, early-refusal, macOf, Accepted, respond-holds}
 use Rattle.commands_spec.proofs.Ways.{not-refused}
 use Rattle.commands_spec.proofs.Entitled.{entitled-by}
 use Rattle.commands_spec.proofs.Judgements.{initialize-passed}

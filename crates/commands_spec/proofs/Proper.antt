@@ -32,6 +32,7 @@ use Rattle.apdu.specs.declared.instructions.Signed.{Signed}
 use Rattle.apdu.specs.declared.instructions.Signed.the-variants.{PutKey, PinChange, StoreData, InitializeTransaction, CompleteTransaction, PutData}
 use Rattle.apdu.specs.Parsing.{dataOf}
 use Rattle.apdu.specs.Lengths.{macSize, signedLength}
+use Rattle.apdu.proofs.Shapes.{header}
 use Rattle.commands_spec.specs.declared.outcome.Effect.the-variants.{Unchanged, StateOnly, StateAndParameters}
 use Rattle.commands_spec.specs.declared.outcome.Outcome.{Outcome}
 use Rattle.commands_spec.specs.Outcomes.{refused, done, tried, changesOf, after}
@@ -51,7 +52,7 @@ use Rattle.commands_spec.specs.GetData.{getDataOf}
 use Rattle.commands_spec.specs.PutData.{undercuts, putDataStatus, putDataOf}
 use Rattle.commands_spec.specs.ReadRecord.{asked, readRecordOf}
 use Rattle.commands_spec.specs.Respond.{plainOf, signedOf, respond, cardAfter}
-use Rattle.commands_spec.proofs.Steps.{decided-either, header, macOf, Passed, Accepted, respond-holds}
+use Rattle.commands_spec.proofs.Steps.{decided-either, macOf, Passed, Accepted, respond-holds}
 use Rattle.commands_spec.proofs.Judgements.{complete-passed, pin-formed, store-passed, data-passed}
 use Rattle.commands_spec.proofs.Ways.{changes}
 use Rattle.commands_spec.proofs.Moves.{moved-balance}

@@ -23,6 +23,7 @@ use Rattle.apdu.specs.declared.instructions.Instruction.{Instruction}
 use Rattle.apdu.specs.declared.instructions.Instruction.the-variants.{IsPlain, IsSigned, UnknownClass, UnknownInstruction}
 use Rattle.apdu.specs.Parsing.{dataOf}
 use Rattle.apdu.specs.Lengths.{macSize}
+use Rattle.apdu.proofs.Shapes.{header}
 use Rattle.commands_spec.specs.declared.outcome.Effect.the-variants.{Unchanged}
 use Rattle.commands_spec.specs.declared.outcome.Outcome.{Outcome}
 use Rattle.commands_spec.specs.Outcomes.{refused, done, changesOf}
@@ -34,7 +35,7 @@ use Rattle.commands_spec.specs.InitializeTransaction.{initializeTransact
 use Rattle.commands_spec.specs.GetData.{getDataOf}
 use Rattle.commands_spec.specs.ReadRecord.{asked, readRecordOf}
 use Rattle.commands_spec.specs.Respond.{plainOf, signedOf, named, respond}
-use Rattle.commands_spec.proofs.Steps.{decided-either, header, macOf, respond-holds}
+use Rattle.commands_spec.proofs.Steps.{decided-either, macOf, respond-holds}
 use Rattle.commands_spec.proofs.Ways.{changes}
 
 -- those six, and what is no command

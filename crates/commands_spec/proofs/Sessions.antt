@@ -31,6 +31,7 @@ use Rattle.apdu.specs.declared.instructions.Instruction.{Instruction}
 use Rattle.apdu.specs.declared.instructions.Instruction.the-variants.{IsPlain, IsSigned, UnknownClass, UnknownInstruction}
 use Rattle.apdu.specs.Parsing.{dataOf}
 use Rattle.apdu.specs.Lengths.{macSize, signedLength}
+use Rattle.apdu.proofs.Shapes.{header}
 use Rattle.commands_spec.specs.declared.outcome.Outcome.{Outcome}
 use Rattle.commands_spec.specs.Outcomes.{refused, done}
 use Rattle.commands_spec.specs.Words.{isOne, refusals}
@@ -48,7 +49,7 @@ use Rattle.commands_spec.specs.GetData.{getDataOf}
 use Rattle.commands_spec.specs.PutData.{putDataOf}
 use Rattle.commands_spec.specs.ReadRecord.{asked, readRecordOf}
 use Rattle.commands_spec.specs.Respond.{plainOf, signedOf, named, respond}
-use Rattle.commands_spec.proofs.Steps.{decided-holds, decided-either, early, header, macOf, Accepted, respond-holds}
+use Rattle.commands_spec.proofs.Steps.{decided-holds, decided-either, early, macOf, Accepted, respond-holds}
 use Rattle.commands_spec.proofs.Judgements.{pin-judged, verify-judged, initialize-judged}
 
 -- what is pending after a command with a status word: P1 is byte 3, the amount bytes 8 and 9

@@ -36,6 +36,7 @@ use Rattle.apdu.specs.declared.instructions.Signed.the-variants.{PutKey, PinCha
 use Rattle.apdu.specs.Parsing.{dataOf}
 use Rattle.apdu.specs.Parameters.{hasRecord}
 use Rattle.apdu.specs.Lengths.{macSize, plainLength}
+use Rattle.apdu.proofs.Shapes.{header}
 use Rattle.commands_spec.specs.declared.outcome.Effect.{Effect}
 use Rattle.commands_spec.specs.declared.outcome.Outcome.{Outcome}
 use Rattle.commands_spec.specs.Outcomes.{refused, done}
@@ -55,7 +56,7 @@ use Rattle.commands_spec.specs.GetData.{getDataOf}
 use Rattle.commands_spec.specs.PutData.{putDataOf}
 use Rattle.commands_spec.specs.ReadRecord.{asked, readRecordOf}
 use Rattle.commands_spec.specs.Respond.{plainOf, signedOf, respond}
-use Rattle.commands_spec.proofs.Steps.{decided-either, header, macOf, Passed, respond-holds}
+use Rattle.commands_spec.proofs.Steps.{decided-either, macOf, Passed, respond-holds}
 use Rattle.commands_spec.proofs.Judgements.{complete-passed}
 use Rattle.commands_spec.proofs.Ways.{completedHead, completedAnswer}
 use Rattle.commands_spec.proofs.Words.{status-listed}

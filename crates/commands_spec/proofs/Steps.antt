@@ -24,6 +24,7 @@ use Rattle.apdu.specs.declared.instructions.Plain.{Plain}
 use Rattle.apdu.specs.declared.instructions.Signed.{Signed}
 use Rattle.apdu.specs.declared.instructions.Instruction.{Instruction}
 use Rattle.apdu.specs.declared.instructions.Instruction.the-variants.{IsPlain, IsSigned, UnknownClass, UnknownInstruction}
+use Rattle.apdu.proofs.Shapes.{header}
 use Rattle.apdu.specs.Parsing.{headed, parsed, dataOf}
 use Rattle.apdu.specs.Parameters.{plainParameters, signedParameters, hasRecord}
 use Rattle.apdu.specs.Lengths.{macSize, plainLength, signedLength}
@@ -131,10 +132,6 @@ early-passed a b c d e =
     record { selected = not-false a (p .0); parameters = not-false b (q .0); logged = not-false c (r .0); length = not-false d (t .0) }
 
 -- ---- the ways
-
--- the header of a command, with lc bytes of data
-abbrev pub header : List ℕ → ℕ → Apdu
-header command lc = record { cla = byteAt command 0; ins = byteAt command 1; p1 = byteAt command 2; p2 = byteAt command 3; lc = lc }
 
 -- the C-MAC that step 6 asks for
 abbrev pub macOf : Session → List ℕ → ℕ → List ℕ

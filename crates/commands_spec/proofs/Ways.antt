@@ -27,6 +27,7 @@ use Rattle.apdu.specs.declared.instructions.Instruction.{Instruction}
 use Rattle.apdu.specs.declared.instructions.Instruction.the-variants.{IsPlain, IsSigned, UnknownClass, UnknownInstruction}
 use Rattle.apdu.specs.Parsing.{dataOf}
 use Rattle.apdu.specs.Lengths.{macSize, signedLength}
+use Rattle.apdu.proofs.Shapes.{header}
 use Rattle.commands_spec.specs.declared.outcome.Effect.{Effect}
 use Rattle.commands_spec.specs.declared.outcome.Effect.the-variants.{Unchanged, StateOnly, ParametersOnly, StateAndParameters}
 use Rattle.commands_spec.specs.declared.outcome.Outcome.{Outcome}
@@ -46,7 +47,7 @@ use Rattle.commands_spec.specs.GetData.{getDataOf}
 use Rattle.commands_spec.specs.PutData.{putDataStatus, putDataOf}
 use Rattle.commands_spec.specs.ReadRecord.{asked, readRecordOf}
 use Rattle.commands_spec.specs.Respond.{plainOf, signedOf, named, respond}
-use Rattle.commands_spec.proofs.Steps.{Judged, early-refusal, decided-holds, header, macOf, Passed, Accepted, respond-holds}
+use Rattle.commands_spec.proofs.Steps.{Judged, early-refusal, decided-holds, macOf, Passed, Accepted, respond-holds}
 use Rattle.commands_spec.proofs.Judgements.{put-key-judged, pin-judged, store-judged, verify-judged, initialize-judged, complete-judged, data-judged, verify-tries}
 
 -- the changes that an outcome makes on a card, and the card that it leaves

@@ -10,7 +10,7 @@ use native.Mathlib.Omega.{arith}
 use borrow.Author.Tests.{eq-eqb, ne-eqb, eqb-true}
 use lib.Dec.{eqb}
 use Rattle.octets.specs.Bytes.{byteAt}
-use Rattle.commands_spec.proofs.Steps.{and-both}
+use Rattle.octets.proofs.Conditions.{and-both}
 use Rattle.purse_spec.specs.Calls.{Run}
 use Rattle.purse_spec.specs.History.{install, start, send}
 use Rattle.purse_spec.specs.Ledger.{Note, Ledger, empty, noting, addedTo, statusWord, isInitialize, isComplete, noteOf, finished, fed}

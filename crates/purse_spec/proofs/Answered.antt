@@ -10,6 +10,7 @@ use native.Mathlib.Omega.{arith}
 use lib.Dec.{ltb}
 use lib.ListN.{length}
 use Rattle.octets.specs.Choice.{pick}
+use Rattle.octets.proofs.Rules.{pick-holds}
 use Rattle.stores.specs.Stores.{answers}
 use Rattle.stores.proofs.Limits.{never-seven, seven-cut, zero-done, reports-count}
 use Rattle.card.specs.Reading.{readable, readCard}
@@ -17,7 +18,6 @@ use Rattle.card.specs.Changes.{installPlan}
 use Rattle.card.proofs.Seen.{reads}
 use Rattle.card.proofs.Live.{sound}
 use Rattle.card.proofs.Cards.{readable-read}
-use Rattle.commands_spec.proofs.Steps.{pick-holds}
 use Rattle.purse_spec.specs.Calls.{Run, refusal}
 use Rattle.purse_spec.specs.Installation.{fixedOf, keysOf}
 use Rattle.purse_spec.specs.Commands.{performed}

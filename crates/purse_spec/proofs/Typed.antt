@@ -4,10 +4,10 @@ use Prim.Native.Nat.{ℕ}
 use lib.Dec.{ltb, eqb}
 use lib.ListN.{length}
 use Rattle.octets.specs.Bytes.{AreBytes}
+use Rattle.octets.proofs.Rules.{pick-holds}
 use Rattle.card.proofs.Bounds.{install-bytes}
 use Rattle.session.specs.declared.Session.{Session}
 use Rattle.session.proofs.Sizes.{Sized, unselected-sized}
-use Rattle.commands_spec.proofs.Steps.{pick-holds}
 use Rattle.commands_spec.proofs.Sizes.{session-sized}
 use Rattle.commands_spec.specs.Respond.{respond}
 use Rattle.purse_spec.specs.Calls.{Run, refusal}
