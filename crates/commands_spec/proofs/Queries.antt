@@ -1,12 +1,10 @@
 -- SELECT, READ RECORD and GET DATA: none is refused that document 01 allows, and their answers byte by byte. Assumes nothing.
 use mathlib.Core.Bool.{Bool, true, false}
 use mathlib.Core.List.{List, [], _∷_, _++_}
-use mathlib.Core.Path.{_≡_, refl, sym, subst}
+use mathlib.Core.Path.{_≡_, refl}
 use Prim.Native.Nat.{ℕ, _+_, _-_, _≤_, _<_}
-use native.Mathlib.Omega.{arith}
 use borrow.Author.Tests.{le-leb}
 use lib.ListN.{length, getD, take}
-use Rattle.octets.specs.Choice.{pick}
 use Rattle.octets.specs.Bytes.{zeros}
 use Rattle.octets.specs.Words.{word}
 use Rattle.octets.specs.Buffers.{content}
@@ -32,10 +30,10 @@ use Rattle.commands_spec.specs.GetData.{getDataOf}
 use Rattle.commands_spec.specs.ReadRecord.{asked, readRecordOf}
 use Rattle.commands_spec.specs.Respond.{plainOf, respond}
 use Rattle.commands_spec.specs.Sent.{plainCommand, bareCommand}
-use Rattle.commands_spec.specs.Values.{KnownTag, known-value, known-variable}
-use Rattle.commands_spec.specs.Shown.{Administrative, Operational, Reads, identifier, currency, maximum-balance, maximum-debit, maximum-number, bank, no-bank, agent, number, balance, tries, status}
+use Rattle.commands_spec.specs.Values.{KnownTag}
+use Rattle.commands_spec.specs.Shown.{Administrative, Operational, Reads}
 use Rattle.commands_spec.proofs.Sending.{reaches-plain, reaches-bare}
-use Rattle.commands_spec.proofs.Values.{up-to-seven, known-tag}
+use Rattle.commands_spec.proofs.Values.{known-tag, datum-reads}
 use Rattle.commands_spec.proofs.Shown.{administrative-shown, operational-shown}
 
 -- ---- SELECT
@@ -110,24 +108,6 @@ record-granted c s n le random sel low high short =
     (refl, content-holding _)
 
 -- ---- GET DATA
-
--- every tag of the table reads as what it names
-datum-reads : (h : Head) (flag : Bool) (tag : ℕ) → KnownTag tag → Reads h flag tag (datum h flag tag)
-unfolding datum
-datum-reads h flag tag (known-value t low high) =
-    up-to-seven (λ (n : ℕ). 1 ≤ n → Reads h flag n (datum h flag n)) (λ k. absurd (omega arith)) (λ k. identifier) (λ k. currency)
-    (λ k. maximum-balance) (λ k. maximum-debit) (λ k. maximum-number) (λ k. bank-reads (h .purse .parameters .bank .defined) refl) (λ k. agent) tag high low
-  where
-    bank-reads : (b : Bool) → h .purse .parameters .bank .defined ≡ b → Reads h flag 0x06 (pick b (h .purse .parameters .bank .value) [])
-    bank-reads true e = bank e
-    bank-reads false e = no-bank e
-datum-reads h flag tag (known-variable t low high) =
-    let k : tag - 0x14 ≤ 7 = omega arith in
-    let e : tag ≡ 0x14 + (tag - 0x14) = omega arith in
-    subst (λ (n : ℕ). Reads h flag n (datum h flag n)) (sym e)
-    (up-to-seven (λ (n : ℕ). n ≤ 3 → Reads h flag (0x14 + n) (datum h flag (0x14 + n))) (λ j. number) (λ j. balance) (λ j. tries)
-    (λ j. status (administrative h flag) (administrative-shown h flag)) (λ j. absurd (omega arith)) (λ j. absurd (omega arith)) (λ j. absurd (omega arith))
-    (λ j. absurd (omega arith)) (tag - 0x14) k (omega arith))
 
 -- "length, value"
 pub record Answers (h : Head) (flag : Bool) (tag : ℕ) (o : Outcome) : Type 0 where

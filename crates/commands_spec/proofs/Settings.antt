@@ -36,7 +36,7 @@ use Rattle.commands_spec.proofs.ProperChanges.{Settled}
 -- PUT KEY's key set
 pub key-set-keys : (l : List ℕ) → AreBytes l → Keys (keySet l)
 unfolding keySet
-key-set-keys l f = record { enc = field-bytes-of l 0 16 f; mac = field-bytes-of l 16 16 f; dek = field-bytes-of l 32 16 f }
+key-set-keys l f = record { enc = field-bytes-of l _ 16 f; mac = field-bytes-of l _ 16 f; dek = field-bytes-of l _ 16 f }
 
 -- ---- the values of the tags
 

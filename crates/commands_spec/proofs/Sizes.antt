@@ -233,7 +233,7 @@ module _ (c : Card) (s : Session) (command random : List ℕ) (i : Sound c s com
       let b = and-both (leb 1 (byteAt command 2)) _ (f .logged) in
       let x = leb-true 1 (byteAt command 2) (b .0) in
       let y = leb-true (byteAt command 2) (B .fixed .logsize) (b .1) in
-      let k = read-size c (i .proper) (byteAt command 2 - 1) (omega arith) in
+      let k = read-size c (i .proper) (asked command) (unfold asked in omega arith) in
       done-fits _ B _ _ (ended-sized (i .sized)) (omega arith)
 
   -- the session with the chain of C-MACs moved on

@@ -97,11 +97,13 @@ module _ (c : Card) (s : Session) (p1 : ℕ) (l : Level) (xs : List Tlv) (le ran
     unfolding personalized withParameters
     store-personalizes = ap (λ (h : Head). h .purse .parameters .personalized) store-head
 
-    -- and GET DATA reads each value under its tag
+    -- each value stands under its tag
+    pub store-datum : (tag : ℕ) (v : List ℕ) (flag : Bool) → Carries dek tag v xs → tag ≤ 0x07 → datum (cardAfter c s (storing s xs le) random .head) flag tag ≡ v
+    store-datum tag v flag has k = rw store-head (personalized-reads (left .head) flag tag k ∙ left-taken .reads tag v flag has)
+
+    -- and GET DATA reads it
     pub store-reads : (tag : ℕ) (v : List ℕ) (t : Session) (le′ random′ : List ℕ) → Carries dek tag v xs → tag ≤ 0x07 → isTag tag ≡ true → t .selected ≡ true → length le′ ≤ 1
         → content (respond (cardAfter c s (storing s xs le) random) t (bareCommand 0x80 0xCA 0x02 tag le′) random′ .reply) ≡ length v ∷ v ++ word 0x9000
     store-reads tag v t le′ random′ has k q sel short′ =
-        let d = cardAfter c s (storing s xs le) random in
-        let r : datum (d .head) (t .verified) tag ≡ v =
-        rw store-head (personalized-reads (left .head) (t .verified) tag k ∙ left-taken .reads tag v (t .verified) has) in
-        get-answers d t tag le′ random′ sel q short′ ∙ ap (λ (x : List ℕ). length x ∷ x ++ word 0x9000) r
+        get-answers (cardAfter c s (storing s xs le) random) t tag le′ random′ sel q short′
+        ∙ ap (λ (x : List ℕ). length x ∷ x ++ word 0x9000) (store-datum tag v (t .verified) has k)

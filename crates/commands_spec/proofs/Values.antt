@@ -1,8 +1,8 @@
--- A value of document 01's table is taken, and what is set under a tag is read under it. Assumes nothing.
+-- Exactly the values of document 01's table are taken; what is set under a tag is read under it; each tag reads as what it names. Assumes nothing.
 use mathlib.Core.Bool.{Bool, true, false, _&&_, _||_, false≢true}
 use mathlib.Core.List.{List, [], _∷_, _++_}
 use mathlib.Core.Path.{_≡_, refl, sym, ap, _∙_, subst}
-use Prim.Native.Nat.{ℕ, zero, suc, _+_, _*_, _/_, _%_, _≤_, _<_}
+use Prim.Native.Nat.{ℕ, zero, suc, _+_, _*_, _/_, _%_, _≤_, _<_, _-_}
 use native.Mathlib.Omega.{arith}
 use native.Mathlib.Nat.{min-eq-left}
 use borrow.Author.Tests.{leb-true, leb-false, eqb-true, eq-eqb, ne-eqb, le-leb}
@@ -21,9 +21,12 @@ use Rattle.apdu.specs.Parameters.{isTag}
 use Rattle.channel.specs.Channel.{bankSent, bankReceived}
 use Rattle.channel.proofs.Results.{length-bankSent, length-bankReceived, bytes-bankReceived, bank-back, bank-sent-back}
 use Rattle.commands_spec.specs.Updates.{withParameters, withMaxnumber}
+use Rattle.commands_spec.specs.Status.{administrative}
 use Rattle.commands_spec.specs.Data.{maximumOk, bankLength, agentLength, valueOk, bankOf, agentOf, parameterSet, datumSet, datum}
 use Rattle.commands_spec.specs.Values.{Value, identifier, currency, maximum-balance, maximum-debit, maximum-number, bank, no-bank, agent, no-agent, KnownTag, known-value, known-variable}
+use Rattle.commands_spec.specs.Shown.{Reads, reads-identifier, reads-currency, reads-maximum-balance, reads-maximum-debit, reads-maximum-number, reads-bank, reads-no-bank, reads-agent, reads-number, reads-balance, reads-tries, reads-status}
 use Rattle.commands_spec.specs.Order.{IsValue}
+use Rattle.commands_spec.proofs.Shown.{administrative-shown}
 
 -- a field that has the whole of a byte string
 field-whole : (v : List ℕ) (n : ℕ) → length v ≡ n → field v 0 n ≡ v
@@ -191,3 +194,23 @@ module _ (dek : List ℕ) where
       (λ k. bank-only sent f k)
       (λ k. agent-only sent k)
       tag (tag-within tag sent e) e
+
+-- ---- what each tag reads as
+
+-- every tag of the table reads as what it names
+pub datum-reads : (h : Head) (flag : Bool) (tag : ℕ) → KnownTag tag → Reads h flag tag (datum h flag tag)
+unfolding datum
+datum-reads h flag tag (known-value t low high) =
+    up-to-seven (λ (n : ℕ). 1 ≤ n → Reads h flag n (datum h flag n)) (λ k. absurd (omega arith)) (λ k. reads-identifier) (λ k. reads-currency)
+    (λ k. reads-maximum-balance) (λ k. reads-maximum-debit) (λ k. reads-maximum-number) (λ k. bank-reads (h .purse .parameters .bank .defined) refl) (λ k. reads-agent) tag high low
+  where
+    bank-reads : (b : Bool) → h .purse .parameters .bank .defined ≡ b → Reads h flag 0x06 (pick b (h .purse .parameters .bank .value) [])
+    bank-reads true e = reads-bank e
+    bank-reads false e = reads-no-bank e
+datum-reads h flag tag (known-variable t low high) =
+    let k : tag - 0x14 ≤ 7 = omega arith in
+    let e : tag ≡ 0x14 + (tag - 0x14) = omega arith in
+    subst (λ (n : ℕ). Reads h flag n (datum h flag n)) (sym e)
+    (up-to-seven (λ (n : ℕ). n ≤ 3 → Reads h flag (0x14 + n) (datum h flag (0x14 + n))) (λ j. reads-number) (λ j. reads-balance) (λ j. reads-tries)
+    (λ j. reads-status (administrative h flag) (administrative-shown h flag)) (λ j. absurd (omega arith)) (λ j. absurd (omega arith)) (λ j. absurd (omega arith))
+    (λ j. absurd (omega arith)) (tag - 0x14) k (omega arith))

@@ -34,15 +34,15 @@ pub record Operational (h : Head) (l : List ℕ) : Type 0 where
 
 -- what GET DATA says of each tag of the table: "undefined: 06, 07 length 00, others zeros"
 pub data Reads (h : Head) (flag : Bool) : ℕ → List ℕ → Type 0 where
-  identifier : Reads h flag 0x01 (h .purse .parameters .identifier)
-  currency : Reads h flag 0x02 (word (h .purse .parameters .currency))
-  maximum-balance : Reads h flag 0x03 (word (h .purse .parameters .maxbalance))
-  maximum-debit : Reads h flag 0x04 (word (h .purse .parameters .maxdebit))
-  maximum-number : Reads h flag 0x05 (word (h .shared .maxnumber))
-  bank : h .purse .parameters .bank .defined ≡ true → Reads h flag 0x06 (h .purse .parameters .bank .value)
-  no-bank : h .purse .parameters .bank .defined ≡ false → Reads h flag 0x06 []
-  agent : Reads h flag 0x07 (take (h .purse .parameters .agent .length) (h .purse .parameters .agent .value))
-  number : Reads h flag 0x14 (word (h .state .number))
-  balance : Reads h flag 0x15 (word (h .state .balance))
-  tries : Reads h flag 0x16 (h .state .tries ∷ [])
-  status : (n : ℕ) → Administrative h flag n → Reads h flag 0x17 (n ∷ [])
+  reads-identifier : Reads h flag 0x01 (h .purse .parameters .identifier)
+  reads-currency : Reads h flag 0x02 (word (h .purse .parameters .currency))
+  reads-maximum-balance : Reads h flag 0x03 (word (h .purse .parameters .maxbalance))
+  reads-maximum-debit : Reads h flag 0x04 (word (h .purse .parameters .maxdebit))
+  reads-maximum-number : Reads h flag 0x05 (word (h .shared .maxnumber))
+  reads-bank : h .purse .parameters .bank .defined ≡ true → Reads h flag 0x06 (h .purse .parameters .bank .value)
+  reads-no-bank : h .purse .parameters .bank .defined ≡ false → Reads h flag 0x06 []
+  reads-agent : Reads h flag 0x07 (take (h .purse .parameters .agent .length) (h .purse .parameters .agent .value))
+  reads-number : Reads h flag 0x14 (word (h .state .number))
+  reads-balance : Reads h flag 0x15 (word (h .state .balance))
+  reads-tries : Reads h flag 0x16 (h .state .tries ∷ [])
+  reads-status : (n : ℕ) → Administrative h flag n → Reads h flag 0x17 (n ∷ [])

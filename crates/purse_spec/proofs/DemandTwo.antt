@@ -43,7 +43,7 @@ module _ (st : State) (c : Card) (bytes random area : List ℕ) (limit : ℕ) (t
   abbrev x : Call
   x = send bytes random area limit
 
-  no-reason : NoReason (reasons x st)
+  pub no-reason : NoReason (reasons x st)
   unfolding NoReason reasons awaits
   no-reason =
       let n = sound (st .memory) c (reads (st .memory) c e) .size in

@@ -20,3 +20,6 @@ pub mod Guess
 pub mod Booking
 pub mod Balance
 pub mod Typed
+pub mod GrantedCalls
+pub mod Walks
+pub mod Histories
