@@ -25,7 +25,7 @@ enum {
     PURSE_RESPONSE = 32
 };
 
-/* What a call can say. Of several reasons the first counts, in the order 1, 3, 4, 8, 2, 6. */
+/* What a call can say. Of several reasons the first counts, in the order 1, 3, 4, 8, 2, 5, 6. */
 enum {
     PURSE_DONE = 0,          /* done; a command's response leads the response area */
     PURSE_WRONG_MEMORY = 1,  /* memory is not 4,096 bytes */

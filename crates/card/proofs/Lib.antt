@@ -7,7 +7,6 @@ pub mod Cards
 pub mod Live
 pub mod Cut
 pub mod Done
-pub mod Row
 pub mod Images
 pub mod Installation
 pub mod Bounds

@@ -40,3 +40,4 @@ pub mod BookingOrder
 pub mod AdministrationOrder
 pub mod Entitled
 pub mod Listed
+pub mod WordAlone
