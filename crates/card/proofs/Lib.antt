@@ -13,3 +13,4 @@ pub mod Bounds
 pub mod Turns
 pub mod InPlace
 pub mod Pins
+pub mod Spelled

@@ -4,3 +4,4 @@ pub mod Proper
 pub mod Layout
 pub mod Reading
 pub mod Changes
+pub mod Ranges
