@@ -28,7 +28,7 @@ use Rattle.bench_file.specs.Printed.{printed, Runs, answerPrinted, respo
 -- ---- answers
 
 -- the answers that the bench can get are 0 to 7
-most : (x : Call) (m : List ℕ) (s : Session) → run x (record { memory = m; session = s; cut = false }) .answer ≤ 7
+pub most : (x : Call) (m : List ℕ) (s : Session) → run x (record { memory = m; session = s; cut = false }) .answer ≤ 7
 most x m s = listed x (record { memory = m; session = s; cut = false })
 
 -- a command keeps the length of its response area

@@ -14,7 +14,7 @@ use Rattle.purse_spec.specs.History.{Call, install, start, send}
 use Rattle.bench_file.specs.Lines.{Bench, ran, digit, hex, answerLine, responseLine, line}
 use Rattle.bench_file.specs.Letters.{upperCase, answerText, ResponseText}
 use Rattle.bench_file.proofs.Digits.{length-hex}
-use Rattle.bench_file.proofs.Answers.{listed}
+use Rattle.bench_file.proofs.Answers.{most}
 
 -- ---- digits
 
@@ -94,19 +94,19 @@ answer-text letter n h = rw (← digit-is n (omega arith), lt-ltb n 10 (omega ar
 -- the line of an installation
 pub install-text : (b : Bench) (d : List ℕ) (limit : ℕ) → let c = install d limit in line c (ran c b) ≡ answerText 0x49 (ran c b .answer)
 unfolding line ran
-install-text b d limit = answer-text 0x49 _ (omega (arith, listed (install d limit) (b .memory) (b .session)))
+install-text b d limit = answer-text 0x49 _ (omega (arith, most (install d limit) (b .memory) (b .session)))
 
 -- of a start-up
 pub start-text : (b : Bench) (limit : ℕ) → let c = start limit in line c (ran c b) ≡ answerText 0x53 (ran c b .answer)
 unfolding line ran
-start-text b limit = answer-text 0x53 _ (omega (arith, listed (start limit) (b .memory) (b .session)))
+start-text b limit = answer-text 0x53 _ (omega (arith, most (start limit) (b .memory) (b .session)))
 
 -- of a command with another answer than 0
 pub refusal-text : (b : Bench) (bytes random area : List ℕ) (limit : ℕ)
     → let c = send bytes random area limit in (ran c b .answer ≡ 0 → ⊥) → line c (ran c b) ≡ answerText 0x43 (ran c b .answer)
 unfolding line ran
 refusal-text b bytes random area limit h =
-    rw (ne-eqb _ 0 h) (answer-text 0x43 _ (omega (arith, listed (send bytes random area limit) (b .memory) (b .session))))
+    rw (ne-eqb _ 0 h) (answer-text 0x43 _ (omega (arith, most (send bytes random area limit) (b .memory) (b .session))))
 
 -- of a command with answer 0: the response leads the response area
 pub command-text : (b : Bench) (bytes random area : List ℕ) (limit : ℕ)
