@@ -229,7 +229,7 @@ module _ (c : Card) (t : Session) (xs : List Tlv) where
   finish-word w = pick-holds (λ (o : Outcome). o .status ≡ w) (eqb w 0x9000) _ _ (λ e. sym (eqb-true w 0x9000 e)) (λ e. refl)
 
   finish-card : (w : ℕ) → left (finish w) ≡ pick (eqb w 0x9000) (changed (parameters (personalized (read .head))) c) c
-  unfolding decided done refused changesOf after
+  unfolding decided done refused changesOf after changed
   finish-card w = go (eqb w 0x9000)
     where
       go : (b : Bool) → left (pick b (done ParametersOnly (personalized (read .head)) (ended t) []) (refused (c .head) (ended t) w))

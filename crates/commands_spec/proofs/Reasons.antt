@@ -86,12 +86,12 @@ admin-tells Admin flag = (λ e n. false≢true e, λ n. absurd (n refl))
 -- the DEK of an open channel is that of its set
 pub set-dek : {h : Head} {k : KeySet} {n : ℕ} {set : Set} {p : ℕ} {l : Level} → Numbered h k n set → LevelOf set p l → dekOf l h ≡ k .dek
 unfolding dekOf keysOf
-set-dek (first e) with-cmac = ap (λ (x : KeySet). x .dek) (sym e)
-set-dek (first e) with-rmac = ap (λ (x : KeySet). x .dek) (sym e)
-set-dek (second e) with-cmac = ap (λ (x : KeySet). x .dek) (sym e)
-set-dek (second e) with-rmac = ap (λ (x : KeySet). x .dek) (sym e)
-set-dek (third e) with-cmac = ap (λ (x : KeySet). x .dek) (sym e)
-set-dek (third e) with-rmac = ap (λ (x : KeySet). x .dek) (sym e)
+set-dek {h = h} {k = k} (first e) with-cmac = ap (λ (x : KeySet). x .dek) (sym e)
+set-dek {h = h} {k = k} (first e) with-rmac = ap (λ (x : KeySet). x .dek) (sym e)
+set-dek {h = h} {k = k} (second e) with-cmac = ap (λ (x : KeySet). x .dek) (sym e)
+set-dek {h = h} {k = k} (second e) with-rmac = ap (λ (x : KeySet). x .dek) (sym e)
+set-dek {h = h} {k = k} (third e) with-cmac = ap (λ (x : KeySet). x .dek) (sym e)
+set-dek {h = h} {k = k} (third e) with-rmac = ap (λ (x : KeySet). x .dek) (sym e)
 
 -- a channel of set 3 is open at either level, has access ADMIN, and its DEK is that of set 3
 pub admin-channel : (p1 : ℕ) (l : Level) (flag : Bool) (h : Head) → LevelOf Admin p1 l

@@ -44,38 +44,36 @@ record Ranges (d : List ℕ) : Type 0 where
   pub some-tries : 3 ≤ byteAt d (byteAt d 0 + 2)
   pub most-tries : byteAt d (byteAt d 0 + 2) ≤ 15
 
-ranges : (d : List ℕ) → dataOk d ≡ true → Ranges d
+-- the test tells exactly that
+ranges : (d : List ℕ) → (dataOk d ≡ true → Ranges d) × (Ranges d → dataOk d ≡ true)
 unfolding dataOk
-ranges d e =
-    let n = byteAt d 0 in
-    let g = and-both _ (leb (byteAt d (n + 2)) 15) e in
-    let f = and-both _ (leb 3 (byteAt d (n + 2))) (g .0) in
-    let k = and-both _ (leb (byteAt d (n + 1)) 50) (f .0) in
-    let j = and-both _ (leb 1 (byteAt d (n + 1))) (k .0) in
-    let i = and-both _ (eqb (length d) (n + 51)) (j .0) in
-    let h = and-both (leb 5 n) (leb n 16) (i .0) in
-    record {
-      least = leb-true _ _ (h .0);
-      most = leb-true _ _ (h .1);
-      long = eqb-true _ _ (i .1);
-      some-log = leb-true _ _ (j .1);
-      most-log = leb-true _ _ (k .1);
-      some-tries = leb-true _ _ (f .1);
-      most-tries = leb-true _ _ (g .1);
-    }
-
-ranges-ok : (d : List ℕ) → Ranges d → dataOk d ≡ true
-unfolding dataOk
-ranges-ok d r =
-    let n = byteAt d 0 in
-    rw (
-      le-leb 5 n (r .least),
-      le-leb n 16 (r .most),
-      eq-eqb (length d) (n + 51) (r .long),
-      le-leb 1 (byteAt d (n + 1)) (r .some-log),
-      le-leb (byteAt d (n + 1)) 50 (r .most-log),
-      le-leb 3 (byteAt d (n + 2)) (r .some-tries),
-      le-leb (byteAt d (n + 2)) 15 (r .most-tries),
+ranges d =
+    let n = byteAt d 0 in (
+      λ e.
+          let g = and-both _ (leb (byteAt d (n + 2)) 15) e in
+          let f = and-both _ (leb 3 (byteAt d (n + 2))) (g .0) in
+          let k = and-both _ (leb (byteAt d (n + 1)) 50) (f .0) in
+          let j = and-both _ (leb 1 (byteAt d (n + 1))) (k .0) in
+          let i = and-both _ (eqb (length d) (n + 51)) (j .0) in
+          let h = and-both (leb 5 n) (leb n 16) (i .0) in
+          record {
+            least = leb-true _ _ (h .0);
+            most = leb-true _ _ (h .1);
+            long = eqb-true _ _ (i .1);
+            some-log = leb-true _ _ (j .1);
+            most-log = leb-true _ _ (k .1);
+            some-tries = leb-true _ _ (f .1);
+            most-tries = leb-true _ _ (g .1);
+          },
+      λ r. rw (
+        le-leb 5 n (r .least),
+        le-leb n 16 (r .most),
+        eq-eqb (length d) (n + 51) (r .long),
+        le-leb 1 (byteAt d (n + 1)) (r .some-log),
+        le-leb (byteAt d (n + 1)) 50 (r .most-log),
+        le-leb 3 (byteAt d (n + 2)) (r .some-tries),
+        le-leb (byteAt d (n + 2)) 15 (r .most-tries),
+      ),
     )
 
 -- where each part of data in range lies
@@ -114,7 +112,7 @@ in-range d g =
     let s : byteAt d (byteAt d 0 + 1) ≡ g .size = rw n (log-size d g) in
     let t : byteAt d (byteAt d 0 + 2) ≡ g .tries = rw n (most-tries d g) in
     let l = data-length d g in
-    ranges-ok d
+    ranges d .1
     (record {
       least = (let a = g .aids in omega arith);
       most = (let a = g .aids in omega arith);
@@ -136,7 +134,7 @@ part-at-front d at n k e = rw e (sym (rw (drop-drop n at d) at (take-append-drop
 -- and no others are
 pub only-in-range : (d : List ℕ) → dataOk d ≡ true → InRange d
 only-in-range d e =
-    let r = ranges d e in
+    let r = ranges d .0 e in
     let n = byteAt d 0 in
     let l = r .long in
     let b = r .least in
@@ -181,7 +179,7 @@ pub installable : (d : List ℕ) → AreBytes d → dataOk d ≡ true → Instal
 unfolding fixedOf keysOf fixedTests
 installable d f e =
     let n = byteAt d 0 in
-    let r = ranges d e in
+    let r = ranges d .0 e in
     record {
       aid = field-bytes-of (part d 1 n) 0 16 (part-bytes d 1 n f);
       keys = record { enc = field-bytes-of d _ 16 f; mac = field-bytes-of d _ 16 f; dek = field-bytes-of d _ 16 f };
