@@ -5,12 +5,14 @@ ghost use Rattle.commands_spec.specs.PinChange.{pinStatus};
 ghost use Rattle.commands_spec.specs.StoreData.{storeStatus};
 ghost use Rattle.commands_spec.specs.VerifyPin.{verifyStatus};
 ghost use Rattle.commands_spec.specs.PutData.{locked, undercuts, dataStatus, putDataStatus};
+use session::ADMIN;
+use session::CREDIT;
 
 // PUT KEY.
 pub fn put_key_status(level: u8) -> u16
     ensures { λ r. ⌜ r ≡ putKeyStatus level ⌝ }
 {
-    if level < 4 {
+    if level < ADMIN {
         return 0x6982;
     }
     0x9000
@@ -24,12 +26,12 @@ pub fn pin_status(unblock: bool, defined: bool, level: u8, good: bool) -> u16
         if !defined {
             return 0x6A81;
         }
-        if level < 4 {
+        if level < ADMIN {
             return 0x6982;
         }
         return 0x9000;
     }
-    if level < 4 {
+    if level < ADMIN {
         return 0x6982;
     }
     if !good {
@@ -48,7 +50,7 @@ pub fn store_status(personalized: bool, keyed: bool, level: u8, inside: bool, go
     if !keyed {
         return 0x6985;
     }
-    if level < 4 {
+    if level < ADMIN {
         return 0x6982;
     }
     if !inside {
@@ -70,7 +72,7 @@ pub fn verify_status(personalized: bool, defined: bool, level: u8, tries: u8) ->
     if !defined {
         return 0x6A81;
     }
-    if level < 2 {
+    if level < CREDIT {
         return 0x6982;
     }
     if tries == 0 {
@@ -117,7 +119,7 @@ fn data_status(personalized: bool, locked: bool, level: u8, good: bool, undercut
     if locked {
         return 0x6A81;
     }
-    if level < 4 {
+    if level < ADMIN {
         return 0x6982;
     }
     if !good {

@@ -2,6 +2,9 @@
 ghost use mathlib.Core.Path.{_≡_};
 ghost use Rattle.commands_spec.specs.InitializeTransaction.{lacks, needed, initializeStatus};
 ghost use Rattle.commands_spec.specs.CompleteTransaction.{completeStatus};
+use session::CREDIT;
+use session::CREDIT_IDENT;
+use session::DEBIT;
 
 // A bank credit wants bank information and a PIN.
 pub fn lacks(p1: u8, bank: bool, pin: bool) -> bool
@@ -21,9 +24,9 @@ pub fn needed(p1: u8) -> u8
     ensures { λ r. ⌜ r ≡ needed p1 ⌝ }
 {
     match p1 {
-        0x00 => 1,
-        0x01 => 2,
-        _ => 3,
+        0x00 => DEBIT,
+        0x01 => CREDIT,
+        _ => CREDIT_IDENT,
     }
 }
 
