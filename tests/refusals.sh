@@ -1,6 +1,7 @@
 #!/usr/bin/env bash
-# Must-fail edits are refused at a false fact: the first error of each edit's log, as 'rt ci' leaves it, stands at a declaration of proofs/
-# or at a contract, doesn't say that a name, a field or a need is missing, and isn't at a declaration that antt admits in a trial run.
+# Must-fail edits are refused at a false fact, and where they say: the first error of each edit's log, as 'rt ci' leaves it, stands at a law, a
+# step of one, or a function's contract that the edit's second line names; it doesn't say that a name, a field or a need is missing; and
+# antt's trial run, which unfolds more names, doesn't admit what it stands at.
 . "$(dirname "$0")/lib.sh"
 
 # What no false fact is said by.
@@ -20,24 +21,45 @@ is_false_fact() {
     esac
 }
 
-# Whether antt's trial run, which unfolds more names, admits the declaration of an error: then it is true and only its text broke.
+# What an error stands at: the name of a law or a step, or of the function whose contract it is. The folder of the edited crate, the error.
+declaration() {
+    local file line
+    case $2 in
+    'note: '*)
+        IFS=: read -r file line _ <<<"${2#note: }"
+        sed -n -E "$line s/.*fn ([[:alnum:]_]+).*/\1/p" "$1/$file"
+        ;;
+    *'/Proof.antt:'*) basename "${2%%/Proof.antt:*}" ;;
+    *) sed -E 's/^[^`]*`([^`]*)`.*/\1/' <<<"$2" ;;
+    esac
+}
+
+# Whether the second line of an edit has a name.
+is_named() {
+    sed -n 2p "$1" | grep -o -E "[[:alnum:]_'-]+" | grep -q -x -F -e "$2"
+}
+
+# Whether antt's trial run admits the declaration that an error names: then it is true, and only its text broke. The error, the log.
 is_admitted() {
-    local name=${1#*': error: `'}
-    grep 'a trial run of this declaration was admitted' "$2" | grep -q -F "(in \`${name%%'`'*}\`)"
+    local file=${1%%:*} name=${1#*': error: `'}
+    grep -F "/$file:" "$2" | grep 'a trial run of this declaration was admitted' | grep -q -F "(in \`${name%%'`'*}\`)"
 }
 
 # One edit: its crate and label.
 judge() {
-    local folder=target/must-fail/$1/$2 error
+    local edit=crates/$1/must-fail/$2.edit folder=target/must-fail/$1/$2 error name
     if [ ! -f "$folder/.log" ]; then
         fail "must-fail $1/$2 was tried"
         return
     fi
     error=$(first_error "$folder/.log" | sed "s|[^ ]*/$folder/||" | cut -c 1-400)
-    if is_false_fact "$error" && ! is_admitted "$error" "$folder/.log"; then
-        good=$((good + 1))
-    else
+    name=$(declaration "$folder" "$error")
+    if ! is_false_fact "$error" || is_admitted "$error" "$folder/.log"; then
         fail "must-fail $1/$2 is refused at a false fact: $error"
+    elif ! is_named "$edit" "$name"; then
+        fail "must-fail $1/$2 is refused where its second line says: $error"
+    else
+        good=$((good + 1))
     fi
 }
 
@@ -47,6 +69,6 @@ for edit in crates/*/must-fail/*.edit; do
     judge "${crate%%/*}" "$(basename "$edit" .edit)"
 done
 if [ "$good" -gt 0 ]; then
-    pass "must-fail: $good edits are refused at a false fact"
+    pass "must-fail: $good edits are refused at the false fact that they name"
 fi
 finish
