@@ -102,6 +102,7 @@ fn transcript_names_the_rule() {
         "   C 0 6D00\n     refused, 6D00: step 2: unknown INS, or an INS not of that CLA\n",
         "   C 0 9413\n     refused, 9413: step 11: debit above maximum debit or balance\n",
         "   C 0 6982\n     refused, 6982: step 9: security level\n",
+        "   C 0 6982\n     refused, 6982: step 9: bank credit without the PIN flag\n",
         "   I 6\n     refused: a number out of range, too short or too long",
         "   S 2\n     memory reads as no card\n",
         "     void\n",

@@ -36,8 +36,9 @@ fn table_of_reachable_rules() {
     assert_eq!((REACHABLE.len(), pairs.len()), (PLACES, PAIRS));
 }
 
-/// Rules by command as 01 lists them, what is no command first, and the status words among them.
-const PLACES: usize = 3 + 3 + 5 + 7 + 7 + 9 + 11 + 9 + 15 + 8 + 4 + 10 + 5;
+/// Rules by command as 01 lists them, with those of 02, what is no command first, and the status
+/// words among them.
+const PLACES: usize = 3 + 3 + 5 + 7 + 7 + 9 + 11 + 9 + 16 + 8 + 4 + 10 + 5;
 const PAIRS: usize = 3 + 3 + 5 + 6 + 5 + 7 + 7 + 8 + 11 + 5 + 4 + 7 + 5;
 
 #[test]

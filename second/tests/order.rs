@@ -96,6 +96,12 @@ impl Scene {
         [command, data, self.tail.clone()].concat()
     }
 
+    fn open_with(&mut self, set: Set) {
+        if let Some(channel) = &mut self.session.channel {
+            channel.set = set;
+        }
+    }
+
     fn run(&self) -> Outcome {
         respond(&self.card, &self.session, &self.command(), &[0xEE; 8])
     }
@@ -138,11 +144,12 @@ const LEVEL: Rule = Rule(0x6982, Refusal::Level, |scene| {
         channel.level = Level::Command;
     }
 });
+/// Below ADMIN.
 const ACCESS: Rule = Rule(0x6982, Refusal::Access, |scene| {
-    if let Some(channel) = &mut scene.session.channel {
-        channel.set = Set::Credit;
-    }
+    scene.open_with(Set::Credit);
 });
+/// Below CREDIT.
+const DEBIT_SET: Rule = Rule(0x6982, Refusal::Access, |scene| scene.open_with(Set::Debit));
 
 /// Steps 1 to 3.
 const EARLY: [Rule; 4] = [MALFORMED, CLASS, INSTRUCTION, UNSELECTED];
@@ -336,11 +343,6 @@ fn verify_pin() {
     let no_channel = Rule(0x6982, Refusal::Access, |scene| {
         scene.session.channel = None;
     });
-    let debit_set = Rule(0x6982, Refusal::Access, |scene| {
-        if let Some(channel) = &mut scene.session.channel {
-            channel.set = Set::Debit;
-        }
-    });
     let blocked = Rule(0x6983, Refusal::Blocked, |scene| scene.card.tries = 0);
     let wrong = Rule(0x6300, Refusal::WrongPin, |scene| scene.data[7] ^= 1);
     for length in [LONGER, NO_DATA] {
@@ -350,7 +352,7 @@ fn verify_pin() {
             &[&EARLY, &[P1, P2, length, UNPERSONALIZED]],
         );
     }
-    for access in [no_channel, debit_set] {
+    for access in [no_channel, DEBIT_SET] {
         let own = [P1, LONGER, UNPERSONALIZED, no_pin, access, blocked, wrong];
         check("VERIFY PIN", &base, &[&EARLY, &own]);
     }
@@ -364,12 +366,18 @@ const AMOUNT: Rule = Rule(0x9412, Refusal::Amount, |scene| scene.data[2] = 0x80)
 
 #[test]
 fn initialize_bank_credit() {
-    let base = scene("94440200", &bytes("09780001"), Mac::Right, Set::Credit);
+    for set in [Set::Credit, Set::Admin] {
+        check_bank_credit(set);
+    }
+}
+
+fn check_bank_credit(set: Set) {
+    let base = scene("94440200", &bytes("09780001"), Mac::Right, set);
     let no_bank = Rule(0x6A81, Refusal::Feature, |scene| {
         scene.card.purse.bank = None;
     });
     let no_pin = Rule(0x6A81, Refusal::Feature, |scene| scene.card.pin = None);
-    let no_flag = Rule(0x6982, Refusal::Access, |scene| {
+    let no_flag = Rule(0x6982, Refusal::Flag, |scene| {
         scene.session.validated = false;
     });
     let full = Rule(0x9414, Refusal::Credit, |scene| {
@@ -379,6 +387,7 @@ fn initialize_bank_credit() {
         let own = [
             UNPERSONALIZED,
             lacks,
+            DEBIT_SET,
             no_flag,
             LEVEL,
             NUMBER,
@@ -413,15 +422,10 @@ fn initialize_debit() {
 #[test]
 fn initialize_cash_credit() {
     let base = scene("94440100", &bytes("0978028A"), Mac::Right, Set::Credit);
-    let debit_set = Rule(0x6982, Refusal::Access, |scene| {
-        if let Some(channel) = &mut scene.session.channel {
-            channel.set = Set::Debit;
-        }
-    });
     let past = Rule(0x9414, Refusal::Credit, |scene| scene.data[3] += 1);
     let own = [
         UNPERSONALIZED,
-        debit_set,
+        DEBIT_SET,
         LEVEL,
         NUMBER,
         CURRENCY,

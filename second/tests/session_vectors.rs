@@ -182,6 +182,12 @@ const SESSION: &[Exchange] = &[
         response: "10414E4F544845522042414E4B203132339000",
     },
     Exchange {
+        what: "VERIFY PIN 98765",
+        random: "0000000000000000",
+        command: "9420000008BCDAB8298B11A1FC",
+        response: "9000",
+    },
+    Exchange {
         what: "INITIALIZE bank credit 1",
         random: "0000000000000000",
         command: "944402000C097800019750E84D8A91F671",

@@ -162,14 +162,16 @@ fn complete_on_another_card() {
     assert_eq!(past.verdict.word(), 0x6985);
 }
 
-/// Bank credit: set 2 needs the PIN flag, set 3 does not.
+/// Bank credit: sets 2 and 3 need the PIN flag, from whatever channel; set 1 has no access.
 #[test]
 fn bank_credit_access() {
     for (set, validated, word) in [
+        (Set::Debit, false, 0x6982),
         (Set::Debit, true, 0x6982),
         (Set::Credit, false, 0x6982),
         (Set::Credit, true, 0x9000),
-        (Set::Admin, false, 0x9000),
+        (Set::Admin, false, 0x6982),
+        (Set::Admin, true, 0x9000),
     ] {
         let mut scenario = selected(personalized());
         if validated {
@@ -180,6 +182,21 @@ fn bank_credit_access() {
         let reply = begin(&mut scenario, Kind::Bank, 1);
         assert_eq!(reply.line.word(), Some(word), "{set:?}, flag {validated}");
     }
+}
+
+/// A wrong PIN takes the flag, and the bank credit with it; COMPLETE doesn't ask for the flag again.
+#[test]
+fn bank_credit_and_the_flag() {
+    let mut scenario = selected(personalized());
+    scenario.open(Set::Admin, Level::Both);
+    for (digits, word) in [("1234", 0x9000), ("4321", 0x6982), ("1234", 0x9000)] {
+        verify(&mut scenario, digits);
+        let reply = begin(&mut scenario, Kind::Bank, 1);
+        assert_eq!(reply.line.word(), Some(word), "{digits}");
+    }
+    scenario.bench.session.validated = false;
+    assert_eq!(complete(&mut scenario).line.word(), Some(0x9000));
+    assert_eq!(scenario.card().purse.balance, 351);
 }
 
 /// Without bank information or PIN only the bank credit is missing.

@@ -51,7 +51,7 @@ pub fn put_key(head: Head, session: Session, p2: u8, body: [u8; 48]) -> Outcome
 {
     let channel = session.channel;
     let level = channel.level;
-    let w = put_key_status(access(level, session.verified));
+    let w = put_key_status(access(level));
     let left = ended(session);
     let next = rekeyed(level, p2, body, head);
     decided(w, head, left, granted(Effect::ParametersOnly, next, left))

@@ -24,7 +24,7 @@ pub fn put_data(head: Head, session: Session, tag: u8, value: &[u8]) -> Outcome
     let purse = head.purse;
     let parameters = purse.parameters;
     let state = head.state;
-    let right = access(level, session.verified);
+    let right = access(level);
     let good = value_ok(tag, value);
     let number = word_at(value, 0);
     let w = put_data_status(

@@ -51,7 +51,7 @@ pub fn store_data(head: Head, session: Session, body: &[u8]) -> Outcome
     let st = stored_all(dek_of(level, head), body, head);
     let seen = st.seen;
     let filled = st.head;
-    let right = access(level, session.verified);
+    let right = access(level);
     let good = is_good(st.good, seen);
     let w = store_status(
         parameters.personalized,

@@ -26,7 +26,7 @@ pub fn unblock_pin(head: Head, session: Session) -> Outcome
     let level = channel.level;
     let pin = head.pin;
     let fixed = head.fixed;
-    let w = pin_status(true, pin.defined, access(level, session.verified), true);
+    let w = pin_status(true, pin.defined, access(level), true);
     let next = with_tries(fixed.maxtries, head);
     let outcome = granted(Effect::StateOnly, next, flagged(false, session));
     decided(w, head, ended(session), outcome)
@@ -41,7 +41,7 @@ pub fn change_pin(head: Head, session: Session, body: [u8; 8]) -> Outcome
     let pin = head.pin;
     let block = received8(dek_of(level, head), body);
     let good = well_formed(block);
-    let w = pin_status(false, pin.defined, access(level, session.verified), good);
+    let w = pin_status(false, pin.defined, access(level), good);
     let next = with_pin(block, head);
     let outcome = granted(Effect::StateAndParameters, next, flagged(false, session));
     decided(w, head, ended(session), outcome)

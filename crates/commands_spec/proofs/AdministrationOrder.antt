@@ -189,24 +189,24 @@ module _ (c : Card) (s : Session) (set : Set) (p : ℕ) (l : Level) (le random :
   pub put-key-order : (n : ℕ) (body : List ℕ) → 1 ≤ n → n ≤ 3 → length body ≡ 48 → putKeyRules set (respond c s (signedCommand s 0x84 0xD8 0x00 n body le) random .status)
   unfolding instruction of84 isSet signedParameters signedLength signedOf putKeyOf putKeyStatus done chained
   put-key-order n body low high long =
-      let a = set-access set p l (s .verified) v in
-      let k = admin-tells set (s .verified) in
+      let a = set-access set p l v in
+      let k = admin-tells set in
       rw (
         reaches-signed c s random PutKey l 0x84 0xD8 0x00 n body le short o refl (rw (le-leb 1 n low, le-leb n 3 high)) (rw long) (a .1),
         o .level,
         a .0,
       )
-      (subst (putKeyRules set) (sym (judged-word _ _ _ _ refl)) (row (ltb (accessOf set (s .verified)) ADMIN) 0x6982 0x9000 (k .0) (k .1) accepted))
+      (subst (putKeyRules set) (sym (judged-word _ _ _ _ refl)) (row (ltb (accessOf set) ADMIN) 0x6982 0x9000 (k .0) (k .1) accepted))
 
   -- UNBLOCK
   pub unblock-order : unblockRules (c .head) set (respond c s (signedCommand s 0x84 0x24 0x00 0x00 [] le) random .status)
   unfolding instruction of84 are signedParameters signedLength signedOf pinChangeOf pinStatus done chained
   unblock-order =
-      let a = set-access set p l (s .verified) v in
-      let k = admin-tells set (s .verified) in
+      let a = set-access set p l v in
+      let k = admin-tells set in
       rw (reaches-signed c s random PinChange l 0x84 0x24 0x00 0x00 [] le short o refl refl refl (a .1), o .level, a .0)
       (subst (unblockRules (c .head) set) (sym (judged-word _ _ _ _ refl))
-      (unset (c .head .pin .defined) 0x6A81 _ (row (ltb (accessOf set (s .verified)) ADMIN) 0x6982 0x9000 (k .0) (k .1) accepted)))
+      (unset (c .head .pin .defined) 0x6A81 _ (row (ltb (accessOf set) ADMIN) 0x6982 0x9000 (k .0) (k .1) accepted)))
 
   -- with the DEK of the channel's set
   module _ (number : ℕ) (keys : KeySet) (m : Numbered (c .head) keys number set) where
@@ -215,13 +215,13 @@ module _ (c : Card) (s : Session) (set : Set) (p : ℕ) (l : Level) (le random :
         → pinChangeRules set (keys .dek) body (respond c s (signedCommand s 0x84 0x24 0x00 0x00 body le) random .status)
     unfolding instruction of84 are signedParameters signedLength signedOf pinChangeOf pinStatus done chained received
     pin-change-order body long =
-        let a = set-access set p l (s .verified) v in
-        let k = admin-tells set (s .verified) in
+        let a = set-access set p l v in
+        let k = admin-tells set in
         let q : signedLength PinChange (length body + 8) ≡ true = rw long in
         let z = pin-tells (keys .dek) body long in
         rw (reaches-signed c s random PinChange l 0x84 0x24 0x00 0x00 body le short o refl refl q (a .1), o .level, a .0, long, set-dek m v)
         (subst (pinChangeRules set (keys .dek) body) (sym (judged-word _ _ _ _ refl))
-        (row (ltb (accessOf set (s .verified)) ADMIN) 0x6982 _ (k .0) (k .1)
+        (row (ltb (accessOf set) ADMIN) 0x6982 _ (k .0) (k .1)
         (lacking (wellFormed (ecbText decipher (keys .dek) body)) 0x6A80 _ (z .0) (z .1) accepted)))
 
     -- PUT DATA of a tag of the table
@@ -229,8 +229,8 @@ module _ (c : Card) (s : Session) (set : Set) (p : ℕ) (l : Level) (le random :
         → putDataRules (c .head) set (keys .dek) tag sent (respond c s (signedCommand s 0x84 0xDA 0x02 tag sent le) random .status)
     unfolding instruction of84 signedParameters signedLength signedOf putDataOf putDataStatus dataStatus done chained
     put-data-order tag sent known bytes =
-        let a = set-access set p l (s .verified) v in
-        let k = admin-tells set (s .verified) in
+        let a = set-access set p l v in
+        let k = admin-tells set in
         rw (
           reaches-signed c s random PutData l 0x84 0xDA 0x02 tag sent le short o refl (known-tag tag known) (le-leb 8 (length sent + 8) (omega arith)) (a .1),
           o .level,
@@ -239,7 +239,7 @@ module _ (c : Card) (s : Session) (set : Set) (p : ℕ) (l : Level) (le random :
         (subst (putDataRules (c .head) set (keys .dek) tag sent) (sym (judged-word _ _ _ _ refl))
         (unset (c .head .purse .parameters .personalized) 0x6985 _
         (row (locked tag (c .head .state .balance)) 0x6A81 _ (λ e n. false≢true (sym (unlocked tag (c .head .state .balance) n) ∙ e)) (locked-told tag (c .head .state .balance) known)
-        (row (ltb (accessOf set (s .verified)) ADMIN) 0x6982 _ (k .0) (k .1)
+        (row (ltb (accessOf set) ADMIN) 0x6982 _ (k .0) (k .1)
         (lacking (valueOk tag sent) 0x6A80 _ (value-only (keys .dek) tag sent bytes) (λ w. value-taken (keys .dek) (w .value))
         (row (undercuts tag (wordAt sent 0) (c .head .state .balance) (c .head .state .number)) 0x6A80 _
         (λ e n. false≢true (sym (above tag (wordAt sent 0) (c .head .state .balance) (c .head .state .number) n) ∙ e))
@@ -251,8 +251,8 @@ module _ (c : Card) (s : Session) (set : Set) (p : ℕ) (l : Level) (le random :
         → storeRules (c .head) set (keys .dek) body (respond c s (signedCommand s 0x84 0xE2 0x80 0x00 body le) random .status)
     unfolding instruction of84 are signedParameters signedLength signedOf storeDataOf storeStatus done chained
     store-data-order body bytes =
-        let a = set-access set p l (s .verified) v in
-        let k = admin-tells set (s .verified) in
+        let a = set-access set p l v in
+        let k = admin-tells set in
         rw (
           reaches-signed c s random StoreData l 0x84 0xE2 0x80 0x00 body le short o refl refl (le-leb 8 (length body + 8) (omega arith)) (a .1),
           o .level,
@@ -262,5 +262,5 @@ module _ (c : Card) (s : Session) (set : Set) (p : ℕ) (l : Level) (le random :
         (subst (storeRules (c .head) set (keys .dek) body) (sym (judged-word _ _ _ _ refl))
         (row (c .head .purse .parameters .personalized || not (c .head .purse .debit .defined && c .head .purse .credit .defined)) 0x6985 _
         (λ e n. false≢true (sym (storable-passes _ _ _ n) ∙ e)) (storable-told _ _ _)
-        (row (ltb (accessOf set (s .verified)) ADMIN) 0x6982 _ (k .0) (k .1)
+        (row (ltb (accessOf set) ADMIN) 0x6982 _ (k .0) (k .1)
         (tlv-rows (c .head) (keys .dek) body bytes))))

@@ -181,11 +181,11 @@ spoiled-word p k level inside good done n e =
     let f : _≡_ {A = ℕ} 0x6A80 0x9000 = rw n at (d .1) in
     omega arith
 
-module _ (c : Card) (level : Level) (flag : Bool) where
+module _ (c : Card) (level : Level) where
   -- the status word that goes with what was read
   abbrev pub storeWord : Stored → ℕ
   storeWord st =
-      storeStatus (c .head .purse .parameters .personalized) (c .head .purse .debit .defined && c .head .purse .credit .defined) (access level flag) true
+      storeStatus (c .head .purse .parameters .personalized) (c .head .purse .debit .defined && c .head .purse .credit .defined) (access level) true
       (st .good && complete (st .seen))
 
   -- and the card
@@ -216,7 +216,7 @@ module _ (c : Card) (t : Session) (xs : List Tlv) where
   abbrev pub finish : ℕ → Outcome
   finish w = decided w (c .head) (ended t) (done ParametersOnly (personalized (read .head)) (ended t) [])
 
-  pub read-outcome : storeDataOf (c .head) t (flat xs) ≡ finish (storeWord c (t .channel .level) (t .verified) read)
+  pub read-outcome : storeDataOf (c .head) t (flat xs) ≡ finish (storeWord c (t .channel .level) read)
   unfolding storeDataOf
   read-outcome =
       rw (
@@ -237,10 +237,10 @@ module _ (c : Card) (t : Session) (xs : List Tlv) where
       go true = refl
       go false = refl
 
-  read-word : storeDataOf (c .head) t (flat xs) .status ≡ storeWord c (t .channel .level) (t .verified) read
+  read-word : storeDataOf (c .head) t (flat xs) .status ≡ storeWord c (t .channel .level) read
   read-word = ap (λ (o : Outcome). o .status) read-outcome ∙ finish-word _
 
-  read-card : left (storeDataOf (c .head) t (flat xs)) ≡ leaves c (t .channel .level) (t .verified) read
+  read-card : left (storeDataOf (c .head) t (flat xs)) ≡ leaves c (t .channel .level) read
   read-card = ap left read-outcome ∙ finish-card _
 
 -- STORE DATA 84 E2 80 00 of a list of TLVs
@@ -275,11 +275,11 @@ module _ (c : Card) (s : Session) (set : Set) (p1 : ℕ) (l : Level) (front rest
   unfolding chained
   order-word =
       rw (store-reached c s set p1 l first le random short o v, store-reached c s set p1 l second le′ random′ short′ o v)
-      (read-word c _ first ∙ alike-words c (s .channel .level) (s .verified) _ _ alike ∙ sym (read-word c _ second))
+      (read-word c _ first ∙ alike-words c (s .channel .level) _ _ alike ∙ sym (read-word c _ second))
 
   -- and the same card
   pub order-card : cardAfter c s (storing s first le) random ≡ cardAfter c s (storing s second le′) random′
   unfolding cardAfter chained
   order-card =
       rw (store-reached c s set p1 l first le random short o v, store-reached c s set p1 l second le′ random′ short′ o v)
-      (read-card c _ first ∙ alike-cards c (s .channel .level) (s .verified) _ _ alike ∙ sym (read-card c _ second))
+      (read-card c _ first ∙ alike-cards c (s .channel .level) _ _ alike ∙ sym (read-card c _ second))

@@ -38,7 +38,7 @@ use Rattle.apdu.specs.Early.{isSelect}
 use Rattle.channel.specs.Channel.{received}
 use Rattle.commands_spec.specs.Outcomes.{refused, done, decided}
 use Rattle.commands_spec.specs.Transaction.{notAboveZero, keepsLimits}
-use Rattle.commands_spec.specs.InitializeTransaction.{lacks, needed, initializeStatus, initializeJudged, initializeTransactionOf}
+use Rattle.commands_spec.specs.InitializeTransaction.{lacks, entitled, initializeStatus, initializeJudged, initializeTransactionOf}
 use Rattle.commands_spec.specs.CompleteTransaction.{isNoted, isDebit, completeStatus, completeJudged, completeTransactionOf}
 use Rattle.commands_spec.specs.VerifyPin.{verifyStatus, judged, verifyPinOf}
 use Rattle.commands_spec.specs.Respond.{plainOf, signedOf, respond}
@@ -103,13 +103,13 @@ module _ (h : Head) (s : Session) (set : Set) (p : ℕ) (p1 currency amount : �
   unfolding initializeJudged initializeStatus lacks notAboveZero
   initialize-rows =
       let q = h .purse .parameters in
-      let a = set-access set p (s .channel .level) (s .verified) v in
+      let a = set-access set p (s .channel .level) v in
       let m = rmac-level set p (s .channel .level) v in
       unset (q .personalized) 0x6985 _
       (row (eqb p1 0x02 && not (q .bank .defined && h .pin .defined)) 0x6A81 _ (lacks-tells p1 _ _) (lacks-told p1 _ _)
-      (row (ltb (access (s .channel .level) (s .verified)) (needed p1)) 0x6982 _
-      (λ e n. let k = entitled-passes p1 set (s .verified) n .1 in let z : accessOf set (s .verified) < needed p1 = ltb-true _ _ (rw (a .0) at e) in omega arith)
-      (λ n. not-refuted _ (λ e. n (entitled-by p1 set (s .verified) one-of (ltb-false _ _ (rw (a .0) at e)))))
+      (lacking (entitled p1 (access (s .channel .level)) (s .verified)) 0x6982 _
+      (λ e. entitled-by p1 set (s .verified) one-of (rw (a .0) at e))
+      (λ n. rw (a .0) (entitled-passes p1 set (s .verified) n .1))
       (lacking (hasRmac (s .channel .level)) 0x6982 _ (m .0) (m .1)
       (row (leb (h .shared .maxnumber) (h .state .number)) 0x9410 _ (leb-true _ _) (le-leb _ _)
       (lacking (eqb currency (q .currency)) 0x9411 _ (eqb-true _ _) (eq-eqb _ _)
@@ -177,26 +177,24 @@ complete-rows h l set p (Crediting amount) v =
 -- ---- VERIFY PIN
 
 -- CREDIT is that of sets 2 and 3
-credit-level : (l : Level) (flag : Bool) → (ltb (access l flag) CREDIT ≡ false → AtLeastCredit l) × (AtLeastCredit l → ltb (access l flag) CREDIT ≡ false)
+credit-level : (l : Level) → (ltb (access l) CREDIT ≡ false → AtLeastCredit l) × (AtLeastCredit l → ltb (access l) CREDIT ≡ false)
 unfolding access accessOf
-credit-level l flag = (have l flag, λ n. has l n flag)
+credit-level l = (have l, has l)
   where
-    have : (l : Level) (flag : Bool) → ltb (access l flag) CREDIT ≡ false → AtLeastCredit l
-    have Closed flag e = absurd (false≢true (sym e))
-    have (Mac Debit) flag e = absurd (false≢true (sym e))
-    have (Rmac Debit) flag e = absurd (false≢true (sym e))
-    have (Mac Credit) flag e = credit-mac
-    have (Rmac Credit) flag e = credit-rmac
-    have (Mac Admin) flag e = admin-mac
-    have (Rmac Admin) flag e = admin-rmac
+    have : (l : Level) → ltb (access l) CREDIT ≡ false → AtLeastCredit l
+    have Closed e = absurd (false≢true (sym e))
+    have (Mac Debit) e = absurd (false≢true (sym e))
+    have (Rmac Debit) e = absurd (false≢true (sym e))
+    have (Mac Credit) e = credit-mac
+    have (Rmac Credit) e = credit-rmac
+    have (Mac Admin) e = admin-mac
+    have (Rmac Admin) e = admin-rmac
 
-    has : (l : Level) → AtLeastCredit l → (flag : Bool) → ltb (access l flag) CREDIT ≡ false
-    has l credit-mac true = refl
-    has l credit-mac false = refl
-    has l credit-rmac true = refl
-    has l credit-rmac false = refl
-    has l admin-mac flag = refl
-    has l admin-rmac flag = refl
+    has : (l : Level) → AtLeastCredit l → ltb (access l) CREDIT ≡ false
+    has l credit-mac = refl
+    has l credit-rmac = refl
+    has l admin-mac = refl
+    has l admin-rmac = refl
 
 -- the PIN's verdict stands behind the rules
 verify-word : (h : Head) (s : Session) (a b low none right : Bool)
@@ -213,12 +211,12 @@ verify-word h s true true false false false = refl
 verify-rows : (h : Head) (s : Session) (body : List ℕ) → verifyRules h s body (verifyPinOf h s body .status)
 unfolding verifyPinOf verifyStatus received
 verify-rows h s body =
-    let k = credit-level (s .channel .level) (s .verified) in
+    let k = credit-level (s .channel .level) in
     let right = same (ecbText decipher (s .channel .enc) body) (h .pin .block) in
-    rw (verify-word h s (h .purse .parameters .personalized) (h .pin .defined) (ltb (access (s .channel .level) (s .verified)) CREDIT) (eqb (h .state .tries) 0) right)
+    rw (verify-word h s (h .purse .parameters .personalized) (h .pin .defined) (ltb (access (s .channel .level)) CREDIT) (eqb (h .state .tries) 0) right)
     (unset (h .purse .parameters .personalized) 0x6985 _
     (unset (h .pin .defined) 0x6A81 _
-    (row (ltb (access (s .channel .level) (s .verified)) CREDIT) 0x6982 _ (λ e n. false≢true (sym (k .1 n) ∙ e)) (λ n. not-refuted _ (λ e. n (k .0 e)))
+    (row (ltb (access (s .channel .level)) CREDIT) 0x6982 _ (λ e n. false≢true (sym (k .1 n) ∙ e)) (λ n. not-refuted _ (λ e. n (k .0 e)))
     (row (eqb (h .state .tries) 0) 0x6983 _ (eqb-true _ _) (eq-eqb _ _)
     (lacking right 0x6300 _ (same-equal _ _) (equal-same _ _)
     accepted)))))
@@ -237,7 +235,7 @@ module _ (c : Card) (s : Session) (set : Set) (p : ℕ) (l : Level) (le random :
       let t = chained (nextMac s (signedText 0x94 0x44 p1 0x00 (word currency ++ word amount))) s in
       rw (
         reaches-signed c s random InitializeTransaction l 0x94 0x44 p1 0x00 (word currency ++ word amount) le short o refl (le-leb p1 0x02 one-of) refl
-            (set-access set p l (s .verified) v .1),
+            (set-access set p l v .1),
         word-read currency,
         word-read amount,
       )
@@ -250,7 +248,7 @@ module _ (c : Card) (s : Session) (set : Set) (p : ℕ) (l : Level) (le random :
   unfolding instruction of94 are signedParameters signedLength signedOf completeTransactionOf completeJudged chained
   complete-order context long =
       rw (
-        reaches-signed c s random CompleteTransaction l 0x94 0x46 0x00 0x00 context le short o refl refl (rw long) (set-access set p l (s .verified) v .1),
+        reaches-signed c s random CompleteTransaction l 0x94 0x46 0x00 0x00 context le short o refl refl (rw long) (set-access set p l v .1),
         o .level,
       )
       (subst (completeRules (c .head) p (s .pending)) (sym (judged-word _ _ _ _ refl)) (complete-rows (c .head) l set p (s .pending) v))

@@ -42,7 +42,7 @@ module _ (c : Card) (s : Session) (p1 : ℕ) (l : Level) (le random : List ℕ) 
         ≡ done StateOnly (withTries (c .head .fixed .maxtries) (c .head)) (flagged false (moved [])) []
     unfolding instruction of84 are signedParameters signedLength signedOf pinChangeOf pinStatus decided chained
     unblock-outcome =
-        let a = admin-channel p1 l (s .verified) (c .head) admin in
+        let a = admin-channel p1 l (c .head) admin in
         rw (reaches-signed c s random PinChange l 0x84 0x24 0x00 0x00 [] le short o refl refl refl (a .0), o .level, a .1, defined)
 
     pub unblock-granted : respond c s (signedCommand s 0x84 0x24 0x00 0x00 [] le) random .status ≡ 0x9000
@@ -67,7 +67,7 @@ module _ (c : Card) (s : Session) (p1 : ℕ) (l : Level) (le random : List ℕ) 
         ≡ done StateAndParameters (withPin (blockOf digits) (c .head)) (flagged false (moved sent)) []
     unfolding instruction of84 are signedParameters signedLength signedOf pinChangeOf pinStatus decided chained
     change-outcome =
-        let a = admin-channel p1 l (s .verified) (c .head) admin in
+        let a = admin-channel p1 l (c .head) admin in
         let b = block-bytes digits d in
         let n : length sent ≡ 8 = length-ecbText encipher (c .head .shared .admin .dek) (blockOf digits) ∙ b .size in
         let q : signedLength PinChange (length sent + 8) ≡ true = rw n in

@@ -28,7 +28,7 @@ use Rattle.session.specs.declared.Pending.{Pending}
 use Rattle.session.specs.declared.Pending.the-variants.{Debiting, Crediting}
 use Rattle.session.specs.declared.Session.{Session}
 use Rattle.session.specs.Session.{chained, answered}
-use Rattle.session.specs.Access.{access, accessOf, hasRmac, isOpen}
+use Rattle.session.specs.Access.{access, hasRmac, isOpen}
 use Rattle.session.specs.Packing.{amountOf}
 use Rattle.apdu.specs.declared.instructions.Signed.the-variants.{InitializeTransaction, CompleteTransaction}
 use Rattle.apdu.specs.Instructions.{instruction, of94}
@@ -41,7 +41,7 @@ use Rattle.commands_spec.specs.Outcomes.{done, decided, changesOf, after
 use Rattle.commands_spec.specs.Updates.{withState, dekOf}
 use Rattle.commands_spec.specs.Status.{operational}
 use Rattle.commands_spec.specs.Transaction.{notAboveZero, newBalance, keepsLimits, logAmount}
-use Rattle.commands_spec.specs.InitializeTransaction.{lacks, needed, noted, initializeStatus, initializeJudged, initializeAnswer, initializeTransactionOf}
+use Rattle.commands_spec.specs.InitializeTransaction.{lacks, noted, initializeStatus, initializeJudged, initializeAnswer, initializeTransactionOf}
 use Rattle.commands_spec.specs.CompleteTransaction.{isNoted, isDebit, completeStatus, completeJudged, booked, logRecord, completeAnswer, completeTransactionOf}
 use Rattle.commands_spec.specs.Respond.{signedOf, respond, cardAfter}
 use Rattle.commands_spec.specs.Sent.{signedText, nextMac, initialization, completion}
@@ -71,7 +71,7 @@ judged-allowed h s set p1 currency amount l e a =
       l,
       a .personal,
       equipped-passes p1 _ _ (a .equipped),
-      le-ltb (accessOf set (s .verified)) (needed p1) (entitled-passes p1 set (s .verified) e .1),
+      entitled-passes p1 set (s .verified) e .1,
       lt-leb (h .shared .maxnumber) (h .state .number) (a .room),
       eq-eqb currency (h .purse .parameters .currency) (a .same),
       ne-eqb amount 0 (λ z. omega (arith, z, a .above)),

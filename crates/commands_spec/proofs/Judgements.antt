@@ -37,10 +37,10 @@ pub verify-judged : (personalized defined : Bool) (level tries : ℕ) → Judged
 unfolding verifyStatus isOne refusals
 verify-judged personalized defined level tries = search rule depth 24
 
-pub initialize-judged : (personalized lacking : Bool) (level need : ℕ) (rmac : Bool) (number maxnumber currency ours amount : ℕ) (debit : Bool) (maxdebit balance maxbalance : ℕ)
-    → Judged refusals (initializeStatus personalized lacking level need rmac number maxnumber currency ours amount debit maxdebit balance maxbalance)
+pub initialize-judged : (personalized lacking may rmac : Bool) (number maxnumber currency ours amount : ℕ) (debit : Bool) (maxdebit balance maxbalance : ℕ)
+    → Judged refusals (initializeStatus personalized lacking may rmac number maxnumber currency ours amount debit maxdebit balance maxbalance)
 unfolding initializeStatus isOne refusals
-initialize-judged personalized lacking level need rmac number maxnumber currency ours amount debit maxdebit balance maxbalance = search rule depth 24
+initialize-judged personalized lacking may rmac number maxnumber currency ours amount debit maxdebit balance maxbalance = search rule depth 24
 
 pub complete-judged : (personalized noted rmac keeps : Bool) (number maxnumber : ℕ) → Judged refusals (completeStatus personalized noted rmac keeps number maxnumber)
 unfolding completeStatus isOne refusals
@@ -64,11 +64,11 @@ verify-tries personalized defined level tries e =
     omega arith
 
 -- what INITIALIZE TRANSACTION found
-pub record Initializes (personalized lacking : Bool) (level need : ℕ) (rmac : Bool) (number maxnumber currency ours amount : ℕ) (debit : Bool)
+pub record Initializes (personalized lacking may rmac : Bool) (number maxnumber currency ours amount : ℕ) (debit : Bool)
     (maxdebit balance maxbalance : ℕ) : Type 0 where
   pub personal : personalized ≡ true
   pub equipped : lacking ≡ false
-  pub access : need ≤ level
+  pub entitled : may ≡ true
   pub with-rmac : rmac ≡ true
   pub room : number < maxnumber
   pub same : currency ≡ ours
@@ -77,14 +77,14 @@ pub record Initializes (personalized lacking : Bool) (level need : ℕ) (rmac : 
   pub debits : debit ≡ true → (amount ≤ maxdebit) × (amount ≤ balance)
   pub credits : debit ≡ false → balance + amount ≤ maxbalance
 
-pub initialize-passed : (personalized lacking : Bool) (level need : ℕ) (rmac : Bool) (number maxnumber currency ours amount : ℕ) (debit : Bool) (maxdebit balance maxbalance : ℕ)
-    → initializeStatus personalized lacking level need rmac number maxnumber currency ours amount debit maxdebit balance maxbalance ≡ 0x9000
-    → Initializes personalized lacking level need rmac number maxnumber currency ours amount debit maxdebit balance maxbalance
+pub initialize-passed : (personalized lacking may rmac : Bool) (number maxnumber currency ours amount : ℕ) (debit : Bool) (maxdebit balance maxbalance : ℕ)
+    → initializeStatus personalized lacking may rmac number maxnumber currency ours amount debit maxdebit balance maxbalance ≡ 0x9000
+    → Initializes personalized lacking may rmac number maxnumber currency ours amount debit maxdebit balance maxbalance
 unfolding initializeStatus notAboveZero
-initialize-passed personalized lacking level need rmac number maxnumber currency ours amount debit maxdebit balance maxbalance e =
+initialize-passed personalized lacking may rmac number maxnumber currency ours amount debit maxdebit balance maxbalance e =
     let a = passed (not personalized) 0x6985 _ 0x9000 e (λ z. omega arith) in
     let b = passed lacking 0x6A81 _ 0x9000 (a .1) (λ z. omega arith) in
-    let c = passed (ltb level need) 0x6982 _ 0x9000 (b .1) (λ z. omega arith) in
+    let c = passed (not may) 0x6982 _ 0x9000 (b .1) (λ z. omega arith) in
     let d = passed (not rmac) 0x6982 _ 0x9000 (c .1) (λ z. omega arith) in
     let f = passed (leb maxnumber number) 0x9410 _ 0x9000 (d .1) (λ z. omega arith) in
     let g = passed (not (eqb currency ours)) 0x9411 _ 0x9000 (f .1) (λ z. omega arith) in
@@ -96,7 +96,7 @@ initialize-passed personalized lacking level need rmac number maxnumber currency
     record {
       personal = not-false personalized (a .0);
       equipped = b .0;
-      access = ltb-false level need (c .0);
+      entitled = not-false may (c .0);
       with-rmac = not-false rmac (d .0);
       room = leb-false maxnumber number (f .0);
       same = eqb-true currency ours (not-false (eqb currency ours) (g .0));

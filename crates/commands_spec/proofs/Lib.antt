@@ -35,6 +35,7 @@ pub mod StoresData
 pub mod Shown
 pub mod Queries
 pub mod OnlyGranted
+pub mod NeedsPin
 pub mod Reasons
 pub mod BookingOrder
 pub mod AdministrationOrder

@@ -32,7 +32,7 @@ use Rattle.apdu.proofs.Shapes.{header}
 use Rattle.commands_spec.specs.declared.outcome.Outcome.{Outcome}
 use Rattle.commands_spec.specs.Outcomes.{refused, decided}
 use Rattle.commands_spec.specs.Words.{isOne, refusals}
-use Rattle.commands_spec.specs.InitializeTransaction.{lacks, needed, initializeJudged, initializeTransactionOf}
+use Rattle.commands_spec.specs.InitializeTransaction.{lacks, entitled, initializeJudged, initializeTransactionOf}
 use Rattle.commands_spec.specs.Respond.{signedOf, named, respond}
 use Rattle.commands_spec.specs.Allowed.{Entitled, Allows}
 use Rattle.commands_spec.proofs.Steps.{early, early-refusal, macOf, Accepted, respond-holds}
@@ -69,9 +69,9 @@ rules-passed : (h : Head) (s : Session) (p1 currency amount : ℕ) → p1 ≤ 2 
     → (l : HasSet (s .channel .level)) × Entitled p1 (l .set) (s .verified) × Allows h p1 currency amount
 unfolding initializeJudged access
 rules-passed h s p1 currency amount one-of e =
-    let f = initialize-passed _ _ _ _ _ _ _ _ _ _ _ _ _ _ e in
+    let f = initialize-passed _ _ _ _ _ _ _ _ _ _ _ _ _ e in
     let l = rmac-set (s .channel .level) (f .with-rmac) in
-    let w : needed p1 ≤ accessOf (l .set) (s .verified) = rw (l .is) at (f .access) in (
+    let w : entitled p1 (accessOf (l .set)) (s .verified) ≡ true = rw (l .is) at (f .entitled) in (
       l,
       entitled-by p1 (l .set) (s .verified) one-of w,
       record {

@@ -71,7 +71,7 @@ module _ (c : Card) (s : Session) (p1 : ℕ) (l : Level) (tag : ℕ) (v sent le 
       × (respond c s (signedCommand s 0x84 0xDA 0x02 tag sent le) random .head ≡ datumSet (c .head .shared .admin .dek) tag sent (c .head))
   unfolding instruction of84 signedParameters signedLength signedOf putDataOf putDataStatus dataStatus decided done chained
   put-outcome =
-      let a = admin-channel p1 l (s .verified) (c .head) admin in
+      let a = admin-channel p1 l (c .head) admin in
       let k = settable-passes (c .head) value settable in
       rw (
         reaches-signed c s random PutData l 0x84 0xDA 0x02 tag sent le short o refl (value-tag value) (le-leb 8 (length sent + 8) (omega arith)) (a .0),

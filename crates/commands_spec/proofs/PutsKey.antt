@@ -88,7 +88,7 @@ module _ (c : Card) (s : Session) (p1 : ℕ) (l : Level) (n : ℕ) (set : Set) (
       × (respond c s (signedCommand s 0x84 0xD8 0x00 n sent le) random .head ≡ withKeys (setOf n) k (c .head))
   unfolding instruction of84 signedParameters signedLength signedOf putKeyOf putKeyStatus decided done chained
   key-outcome =
-      let a = admin-channel p1 l (s .verified) (c .head) admin in
+      let a = admin-channel p1 l (c .head) admin in
       let e = keys .enc in
       let m = keys .mac in
       let d = keys .dek in

@@ -70,18 +70,17 @@ rmac-level set p l with-cmac = (λ e. absurd (false≢true e), λ e. absurd (ome
 rmac-level set p l with-rmac = (λ e. refl, λ e. refl)
 
 -- an open channel's access is its set's
-pub set-access : (set : Set) (p : ℕ) (l : Level) (flag : Bool) → LevelOf set p l → (access l flag ≡ accessOf set flag) × (isOpen l ≡ true)
+pub set-access : (set : Set) (p : ℕ) (l : Level) → LevelOf set p l → (access l ≡ accessOf set) × (isOpen l ≡ true)
 unfolding access isOpen
-set-access set p l flag with-cmac = (refl, refl)
-set-access set p l flag with-rmac = (refl, refl)
+set-access set p l with-cmac = (refl, refl)
+set-access set p l with-rmac = (refl, refl)
 
 -- ADMIN is set 3's alone
-pub admin-tells : (set : Set) (flag : Bool) → (ltb (accessOf set flag) ADMIN ≡ true → NotAdmin set) × (NotAdmin set → ltb (accessOf set flag) ADMIN ≡ true)
+pub admin-tells : (set : Set) → (ltb (accessOf set) ADMIN ≡ true → NotAdmin set) × (NotAdmin set → ltb (accessOf set) ADMIN ≡ true)
 unfolding accessOf
-admin-tells Debit flag = (λ e n. let z : _≡_ {A = ℕ} 0 1 = cc in omega arith, λ n. refl)
-admin-tells Credit true = (λ e n. let z : _≡_ {A = ℕ} 0 1 = cc in omega arith, λ n. refl)
-admin-tells Credit false = (λ e n. let z : _≡_ {A = ℕ} 0 1 = cc in omega arith, λ n. refl)
-admin-tells Admin flag = (λ e n. false≢true e, λ n. absurd (n refl))
+admin-tells Debit = (λ e n. let z : _≡_ {A = ℕ} 0 1 = cc in omega arith, λ n. refl)
+admin-tells Credit = (λ e n. let z : _≡_ {A = ℕ} 0 1 = cc in omega arith, λ n. refl)
+admin-tells Admin = (λ e n. false≢true e, λ n. absurd (n refl))
 
 -- the DEK of an open channel is that of its set
 pub set-dek : {h : Head} {k : KeySet} {n : ℕ} {set : Set} {p : ℕ} {l : Level} → Numbered h k n set → LevelOf set p l → dekOf l h ≡ k .dek
@@ -94,8 +93,8 @@ set-dek {h = h} {k = k} (third e) with-cmac = ap (λ (x : KeySet). x .dek) (sym 
 set-dek {h = h} {k = k} (third e) with-rmac = ap (λ (x : KeySet). x .dek) (sym e)
 
 -- a channel of set 3 is open at either level, has access ADMIN, and its DEK is that of set 3
-pub admin-channel : (p1 : ℕ) (l : Level) (flag : Bool) (h : Head) → LevelOf Admin p1 l
-    → (isOpen l ≡ true) × (access l flag ≡ ADMIN) × (dekOf l h ≡ h .shared .admin .dek)
+pub admin-channel : (p1 : ℕ) (l : Level) (h : Head) → LevelOf Admin p1 l
+    → (isOpen l ≡ true) × (access l ≡ ADMIN) × (dekOf l h ≡ h .shared .admin .dek)
 unfolding isOpen access accessOf dekOf keysOf
-admin-channel p1 l flag h with-cmac = (refl, refl, refl)
-admin-channel p1 l flag h with-rmac = (refl, refl, refl)
+admin-channel p1 l h with-cmac = (refl, refl, refl)
+admin-channel p1 l h with-rmac = (refl, refl, refl)

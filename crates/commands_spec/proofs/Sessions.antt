@@ -227,7 +227,7 @@ module _ (c : Card) (s : Session) (command random : List ℕ) where
   signed-leaves InitializeTransaction lc f =
       let k : lc ≡ 12 = eqb-true lc 12 (f .long) in
       let a : wordAt (dataOf command (lc - macSize)) 2 ≡ wordAt command 7 = rw k (word-in-part command 5 4 2 (omega arith)) in
-      decided-holds (L (IsSigned InitializeTransaction)) refusals _ _ _ _ (initialize-judged _ _ _ _ _ _ _ _ _ _ _ _ _ _)
+      decided-holds (L (IsSigned InitializeTransaction)) refusals _ _ _ _ (initialize-judged _ _ _ _ _ _ _ _ _ _ _ _ _)
       (λ t. record { pending = ap (noted (byteAt command 2)) a; verified = refl; selected = refl; channel = λ e. search })
       (λ j. record { pending = rw (other refusals _ 0x9000 j refl); verified = refl; selected = refl; channel = λ e. search })
   signed-leaves CompleteTransaction lc f =

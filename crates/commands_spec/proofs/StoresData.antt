@@ -68,10 +68,10 @@ module _ (c : Card) (s : Session) (p1 : ℕ) (l : Level) (xs : List Tlv) (le ran
   -- tags 01 to 05 are there
   module _ (v1 v2 v3 v4 v5 : List ℕ) (has1 : Carries dek 0x01 v1 xs) (has2 : Carries dek 0x02 v2 xs) (has3 : Carries dek 0x03 v3 xs)
       (has4 : Carries dek 0x04 v4 xs) (has5 : Carries dek 0x05 v5 xs) where
-    store-judged : storeWord c (moved .channel .level) (moved .verified) (read c moved xs) ≡ 0x9000
+    store-judged : storeWord c (moved .channel .level) (read c moved xs) ≡ 0x9000
     unfolding chained
     store-judged =
-        let a = admin-channel p1 l (s .verified) (c .head) admin in
+        let a = admin-channel p1 l (c .head) admin in
         rw (o .level, a .1, a .2)
         (rules-pass _ _ _ _ _ _ unpersonal debit credit refl (left-taken .good) (left-taken .came 0x01 v1 has1) (left-taken .came 0x02 v2 has2) (left-taken .came 0x03 v3 has3)
         (left-taken .came 0x04 v4 has4) (left-taken .came 0x05 v5 has5))
@@ -79,7 +79,7 @@ module _ (c : Card) (s : Session) (p1 : ℕ) (l : Level) (xs : List Tlv) (le ran
     store-outcome : respond c s (storing s xs le) random ≡ done ParametersOnly (personalized (left .head)) (ended moved) []
     unfolding decided chained
     store-outcome =
-        let a = admin-channel p1 l (s .verified) (c .head) admin in
+        let a = admin-channel p1 l (c .head) admin in
         let k : dekOf (s .channel .level) (c .head) ≡ dek = rw (o .level) (a .2) in
         rw (store-reached c s Admin p1 l xs le random short o admin, read-outcome c moved xs, store-judged, k)
 

@@ -1,6 +1,6 @@
 -- VERIFY PIN in a channel of set 2 or 3 on a personalized card with a PIN and a try left: the right PIN is not refused, fills the tries and sets
 -- the flag; any other eight bytes, ill-formed ones too, cost one try and clear it. Assumes nothing.
-use mathlib.Core.Bool.{Bool, true, false, false≢true}
+use mathlib.Core.Bool.{true, false, false≢true}
 use mathlib.Core.List.{List}
 use mathlib.Core.Path.{_≡_, refl, sym, ap, _∙_}
 use Prim.Native.Nat.{ℕ, _-_, _≤_, _<_}
@@ -40,15 +40,13 @@ use Rattle.commands_spec.proofs.Facts.{facts}
 use Rattle.commands_spec.proofs.Sending.{InChannel, reaches-plain}
 
 -- set 2 and set 3 have access CREDIT, at either level
-credited : (set : Set) (p1 : ℕ) (l : Level) (flag : Bool) → LevelOf set p1 l → (set ≡ Debit → ⊥) → ltb (access l flag) CREDIT ≡ false
+credited : (set : Set) (p1 : ℕ) (l : Level) → LevelOf set p1 l → (set ≡ Debit → ⊥) → ltb (access l) CREDIT ≡ false
 unfolding access accessOf
-credited Debit p1 l flag v n = absurd (n refl)
-credited Credit p1 l true with-cmac n = refl
-credited Credit p1 l false with-cmac n = refl
-credited Credit p1 l true with-rmac n = refl
-credited Credit p1 l false with-rmac n = refl
-credited Admin p1 l flag with-cmac n = refl
-credited Admin p1 l flag with-rmac n = refl
+credited Debit p1 l v n = absurd (n refl)
+credited Credit p1 l with-cmac n = refl
+credited Credit p1 l with-rmac n = refl
+credited Admin p1 l with-cmac n = refl
+credited Admin p1 l with-rmac n = refl
 
 module _ (c : Card) (s : Session) (set : Set) (p1 : ℕ) (l : Level) (le random : List ℕ) (short : length le ≤ 1) (o : InChannel s l) (v : LevelOf set p1 l)
     (n : set ≡ Debit → ⊥) (personal : c .head .purse .parameters .personalized ≡ true) (defined : c .head .pin .defined ≡ true)
@@ -62,7 +60,7 @@ module _ (c : Card) (s : Session) (set : Set) (p1 : ℕ) (l : Level) (le random 
         o .level,
         personal,
         defined,
-        credited set p1 l (s .verified) v n,
+        credited set p1 l v n,
         ne-eqb (c .head .state .tries) 0 (λ z. omega arith),
       )
 

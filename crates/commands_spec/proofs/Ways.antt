@@ -205,7 +205,7 @@ module _ (c : Card) (s : Session) (command random : List ℕ) where
       decided-holds W refusals _ _ _ _ (store-judged _ _ _ _ _) (λ t. sets _ _ (rw e)) (refusal _ _)
   signed-way InitializeTransaction lc f =
       let e = f .names in
-      decided-holds W refusals _ _ _ _ (initialize-judged _ _ _ _ _ _ _ _ _ _ _ _ _ _) (λ t. tells _ _ (rw e)) (refusal _ _)
+      decided-holds W refusals _ _ _ _ (initialize-judged _ _ _ _ _ _ _ _ _ _ _ _ _) (λ t. tells _ _ (rw e)) (refusal _ _)
   signed-way CompleteTransaction lc f =
       let k : lc ≡ 24 = eqb-true lc 24 (f .long) in
       rw k (completes (macOf s command 24) (f .names))

@@ -1,5 +1,5 @@
--- What document 01 allows, said of cards, key sets and numbers and not of status words: demand 2, "A transaction that 01 allows is never
--- refused." Assumes nothing.
+-- What document 01 allows, with 02's mended rules, said of cards, key sets and numbers and not of status words: demand 2, "A transaction
+-- that 01 allows is never refused." Assumes nothing.
 use mathlib.Core.Bool.{Bool, true}
 use mathlib.Core.Path.{_≡_}
 use mathlib.Core.List.{List}
@@ -26,13 +26,13 @@ pub data LevelOf (set : Set) : ℕ → Level → Type 0 where
   with-rmac : LevelOf set 0x11 (Rmac set)
 
 -- which key sets may start which transaction, by P1 and the PIN flag: a debit all of them, a cash credit sets 2 and 3, a bank credit
--- set 2 with the flag, and set 3
+-- sets 2 and 3 with the flag (document 02, request 1)
 pub data Entitled : ℕ → Set → Bool → Type 0 where
   debit : (set : Set) (flag : Bool) → Entitled 0x00 set flag
   cash-credit : (flag : Bool) → Entitled 0x01 Credit flag
   cash-admin : (flag : Bool) → Entitled 0x01 Admin flag
   bank-credit : Entitled 0x02 Credit true
-  bank-admin : (flag : Bool) → Entitled 0x02 Admin flag
+  bank-admin : Entitled 0x02 Admin true
 
 -- what a transaction of a currency and an amount asks of the card: it is personalized, has what a bank credit needs, and room for the
 -- number; the currency is the card's; the amount is above 0, within the limits of a debit or of a credit

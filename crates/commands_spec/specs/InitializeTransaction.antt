@@ -11,7 +11,7 @@ use Rattle.session.specs.declared.Pending.{Pending}
 use Rattle.session.specs.declared.Pending.the-variants.{Debiting, Crediting}
 use Rattle.session.specs.declared.Session.{Session}
 use Rattle.session.specs.Session.{ended, answered}
-use Rattle.session.specs.Access.{access, hasRmac, DEBIT, CREDIT, CREDIT-IDENT}
+use Rattle.session.specs.Access.{access, hasRmac, DEBIT, CREDIT}
 use Rattle.channel.specs.Channel.{rmacOf, bankSent}
 use Rattle.commands_spec.specs.declared.outcome.Effect.the-variants.{Unchanged}
 use Rattle.commands_spec.specs.declared.outcome.Outcome.{Outcome}
@@ -23,16 +23,20 @@ use Rattle.commands_spec.specs.Transaction.{notAboveZero}
 unfoldable pub lacks : ℕ → Bool → Bool → Bool
 lacks p1 bank pin = eqb p1 0x02 && not (bank && pin)
 
--- "Access DEBIT, CREDIT, CREDIT-IDENT"
-unfoldable pub needed : ℕ → ℕ
-needed p1 = pick (eqb p1 0x00) DEBIT (pick (eqb p1 0x01) CREDIT CREDIT-IDENT)
+-- whether access and PIN flag are enough: "Access DEBIT, CREDIT" of a debit and a cash credit; document 02, request 1: "P1 02 needs the PIN
+-- flag set, and access CREDIT or higher"
+unfoldable pub entitled : ℕ → ℕ → Bool → Bool
+entitled p1 level flag =
+    pick (eqb p1 0x00) (leb DEBIT level)
+    (pick (eqb p1 0x01) (leb CREDIT level)
+    (flag && leb CREDIT level))
 
 -- the first rule that refuses, in 01's order: 7, 8, 9, 10, 11
-unfoldable pub initializeStatus : Bool → Bool → ℕ → ℕ → Bool → ℕ → ℕ → ℕ → ℕ → ℕ → Bool → ℕ → ℕ → ℕ → ℕ
-initializeStatus personalized lacking level need rmac number maxnumber currency ours amount debit maxdebit balance maxbalance =
+unfoldable pub initializeStatus : Bool → Bool → Bool → Bool → ℕ → ℕ → ℕ → ℕ → ℕ → Bool → ℕ → ℕ → ℕ → ℕ
+initializeStatus personalized lacking may rmac number maxnumber currency ours amount debit maxdebit balance maxbalance =
     refuse (not personalized) 0x6985
     (refuse lacking 0x6A81
-    (refuse (ltb level need) 0x6982
+    (refuse (not may) 0x6982
     (refuse (not rmac) 0x6982
     (refuse (leb maxnumber number) 0x9410
     (refuse (not (eqb currency ours)) 0x9411
@@ -45,7 +49,7 @@ initializeStatus personalized lacking level need rmac number maxnumber currency 
 unfoldable pub initializeJudged : Head → Session → ℕ → ℕ → ℕ → ℕ
 initializeJudged h s p1 currency amount =
     let p = h .purse .parameters in
-    initializeStatus (p .personalized) (lacks p1 (p .bank .defined) (h .pin .defined)) (access (s .channel .level) (s .verified)) (needed p1)
+    initializeStatus (p .personalized) (lacks p1 (p .bank .defined) (h .pin .defined)) (entitled p1 (access (s .channel .level)) (s .verified))
     (hasRmac (s .channel .level)) (h .state .number) (h .shared .maxnumber) currency (p .currency) amount (eqb p1 0x00) (p .maxdebit)
     (h .state .balance) (p .maxbalance)
 

@@ -124,7 +124,7 @@ verifyRules h s body =
     (Rule (ecbText decipher (s .channel .enc) body ≡ h .pin .block → ⊥) 0x6300
     Done))))
 
--- INITIALIZE TRANSACTION in a channel of a set, at security level 01 or 11
+-- INITIALIZE TRANSACTION in a channel of a set, at security level 01 or 11; 6982 as document 02, request 1, has it
 abbrev pub initializeRules : Head → Set → ℕ → Bool → ℕ → ℕ → ℕ → ℕ → Type 0
 initializeRules h set level flag p1 currency amount =
     Rule (h .purse .parameters .personalized ≡ false) 0x6985

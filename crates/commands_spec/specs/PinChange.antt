@@ -30,7 +30,7 @@ unfoldable pub pinChangeOf : Head → Session → List ℕ → Outcome
 pinChangeOf h s body =
     let unblock = eqb (length body) 0 in
     let block = received (dekOf (s .channel .level) h) body in
-    decided (pinStatus unblock (h .pin .defined) (access (s .channel .level) (s .verified)) (wellFormed block)) h (ended s)
+    decided (pinStatus unblock (h .pin .defined) (access (s .channel .level)) (wellFormed block)) h (ended s)
     (pick unblock
     (done StateOnly (withTries (h .fixed .maxtries) h) (flagged false s) [])
     (done StateAndParameters (withPin block h) (flagged false s) []))

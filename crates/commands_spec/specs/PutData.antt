@@ -43,7 +43,7 @@ putDataStatus personalized tag level good value balance number =
 unfoldable pub putDataOf : Head → Session → ℕ → List ℕ → Outcome
 putDataOf h s tag v =
     decided
-    (putDataStatus (h .purse .parameters .personalized) tag (access (s .channel .level) (s .verified)) (valueOk tag v) (wordAt v 0) (h .state .balance)
+    (putDataStatus (h .purse .parameters .personalized) tag (access (s .channel .level)) (valueOk tag v) (wordAt v 0) (h .state .balance)
     (h .state .number))
     h (ended s)
     (done ParametersOnly (datumSet (dekOf (s .channel .level) h) tag v h) (ended s) [])

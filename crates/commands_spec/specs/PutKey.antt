@@ -28,5 +28,5 @@ putKeyStatus level = refuse (ltb level ADMIN) 0x6982 0x9000
 -- the command past step 6
 unfoldable pub putKeyOf : Head → Session → ℕ → List ℕ → Outcome
 putKeyOf h s p2 body =
-    decided (putKeyStatus (access (s .channel .level) (s .verified))) h (ended s)
+    decided (putKeyStatus (access (s .channel .level))) h (ended s)
     (done ParametersOnly (withKeys (setOf p2) (keySet (received (dekOf (s .channel .level) h) body)) h) (ended s) [])

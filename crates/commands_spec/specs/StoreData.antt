@@ -79,6 +79,6 @@ storeDataOf h s body =
     let st = storedAll (length body) (dekOf (s .channel .level) h) body (unread h) in
     decided
     (storeStatus (h .purse .parameters .personalized) (h .purse .debit .defined && h .purse .credit .defined)
-    (access (s .channel .level) (s .verified)) (within (length body) body) (st .good && complete (st .seen)))
+    (access (s .channel .level)) (within (length body) body) (st .good && complete (st .seen)))
     h (ended s)
     (done ParametersOnly (personalized (st .head)) (ended s) [])

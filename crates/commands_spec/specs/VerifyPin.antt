@@ -3,7 +3,7 @@
 -- PIN is judged: the first of the two changes is `tried` of the card's state, whatever was sent. Assumes nothing.
 use mathlib.Core.Bool.{Bool, true, false, not}
 use mathlib.Core.List.{List, []}
-use Prim.Native.Nat.{ℕ, _-_}
+use Prim.Native.Nat.{ℕ}
 use lib.Dec.{ltb, eqb}
 use Rattle.octets.specs.Choice.{refuse}
 use Rattle.octets.specs.Bytes.{same}
@@ -45,5 +45,5 @@ judged false h s =
 -- the command past step 5
 unfoldable pub verifyPinOf : Head → Session → List ℕ → Outcome
 verifyPinOf h s body =
-    decided (verifyStatus (h .purse .parameters .personalized) (h .pin .defined) (access (s .channel .level) (s .verified)) (h .state .tries)) h (ended s)
+    decided (verifyStatus (h .purse .parameters .personalized) (h .pin .defined) (access (s .channel .level)) (h .state .tries)) h (ended s)
     (judged (same (received (s .channel .enc) body) (h .pin .block)) h s)

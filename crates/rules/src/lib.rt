@@ -13,7 +13,7 @@ pub use sums::keeps_limits;
 pub use sums::log_amount;
 pub use sums::new_balance;
 pub use transaction::complete_status;
+pub use transaction::entitled;
 pub use transaction::initialize_status;
 pub use transaction::lacks;
-pub use transaction::needed;
 pub use values::value_ok;

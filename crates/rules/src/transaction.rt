@@ -1,9 +1,8 @@
 // INITIALIZE and COMPLETE TRANSACTION.
 ghost use mathlib.Core.Path.{_≡_};
-ghost use Rattle.commands_spec.specs.InitializeTransaction.{lacks, needed, initializeStatus};
+ghost use Rattle.commands_spec.specs.InitializeTransaction.{lacks, entitled, initializeStatus};
 ghost use Rattle.commands_spec.specs.CompleteTransaction.{completeStatus};
 use session::CREDIT;
-use session::CREDIT_IDENT;
 use session::DEBIT;
 
 // A bank credit wants bank information and a PIN.
@@ -19,23 +18,27 @@ pub fn lacks(p1: u8, bank: bool, pin: bool) -> bool
     !pin
 }
 
-// The access that P1 asks for.
-pub fn needed(p1: u8) -> u8
-    ensures { λ r. ⌜ r ≡ needed p1 ⌝ }
+// Access and PIN flag are enough for P1.
+pub fn entitled(p1: u8, level: u8, flag: bool) -> bool
+    ensures { λ r. ⌜ r ≡ entitled p1 level flag ⌝ }
 {
     match p1 {
-        0x00 => DEBIT,
-        0x01 => CREDIT,
-        _ => CREDIT_IDENT,
+        0x00 => DEBIT <= level,
+        0x01 => CREDIT <= level,
+        _ => {
+            if !flag {
+                return false;
+            }
+            CREDIT <= level
+        }
     }
 }
 
-// INITIALIZE TRANSACTION.
+// INITIALIZE TRANSACTION; `may` says that access and PIN flag are enough.
 pub fn initialize_status(
     personalized: bool,
     lacking: bool,
-    level: u8,
-    need: u8,
+    may: bool,
     rmac: bool,
     number: u16,
     maxnumber: u16,
@@ -47,7 +50,7 @@ pub fn initialize_status(
     balance: u16,
     maxbalance: u16,
 ) -> u16
-    ensures { λ r. ⌜ r ≡ initializeStatus personalized lacking level need rmac number maxnumber currency ours amount debit maxdebit balance maxbalance ⌝ }
+    ensures { λ r. ⌜ r ≡ initializeStatus personalized lacking may rmac number maxnumber currency ours amount debit maxdebit balance maxbalance ⌝ }
 {
     if !personalized {
         return 0x6985;
@@ -55,7 +58,7 @@ pub fn initialize_status(
     if lacking {
         return 0x6A81;
     }
-    if level < need {
+    if !may {
         return 0x6982;
     }
     if !rmac {

@@ -1,5 +1,5 @@
--- Who may do what, as a table: document 01, "Access: PUBLIC, DEBIT (set 1), CREDIT (set 2), CREDIT-IDENT (set 2 and PIN validated), ADMIN
--- (set 3), each including those below"; and which channels are open and which answer with an R-MAC. Assumes nothing.
+-- Who may do what, as a table: document 01, "Access: PUBLIC, DEBIT (set 1), CREDIT (set 2), .. ADMIN (set 3), each including those below"; and
+-- which channels are open and which answer with an R-MAC. Assumes nothing.
 use mathlib.Core.Bool.{Bool, true, false, false≢true}
 use mathlib.Core.List.{List, [], _∷_}
 use mathlib.Core.Path.{_≡_, refl, sym}
@@ -8,34 +8,30 @@ use Rattle.session.specs.declared.Set.{Set}
 use Rattle.session.specs.declared.Set.the-variants.{Debit, Credit, Admin}
 use Rattle.session.specs.declared.Level.{Level}
 use Rattle.session.specs.declared.Level.the-variants.{Closed, Mac, Rmac}
-use Rattle.session.specs.Access.{PUBLIC, DEBIT, CREDIT, CREDIT-IDENT, ADMIN, accessOf, access, isOpen, hasRmac}
+use Rattle.session.specs.Access.{PUBLIC, DEBIT, CREDIT, ADMIN, accessOf, access, isOpen, hasRmac}
 
--- what a channel with the PIN flag may do: what is open to PUBLIC, to DEBIT, to CREDIT, to CREDIT-IDENT, to ADMIN
-abbrev pub allowed : Level → Bool → List Bool
-allowed level flag =
-    leb PUBLIC (access level flag) ∷ leb DEBIT (access level flag) ∷ leb CREDIT (access level flag)
-    ∷ leb CREDIT-IDENT (access level flag) ∷ leb ADMIN (access level flag) ∷ []
+-- what a channel may do: what is open to PUBLIC, to DEBIT, to CREDIT, to ADMIN
+abbrev pub allowed : Level → List Bool
+allowed level = leb PUBLIC (access level) ∷ leb DEBIT (access level) ∷ leb CREDIT (access level) ∷ leb ADMIN (access level) ∷ []
 
--- set 1, set 2 without the PIN flag and with it, set 3; the security level, 01 or 11, makes no difference
-abbrev pub rights : Set → Bool → List Bool
-rights Debit flag = true ∷ true ∷ false ∷ false ∷ false ∷ []
-rights Credit false = true ∷ true ∷ true ∷ false ∷ false ∷ []
-rights Credit true = true ∷ true ∷ true ∷ true ∷ false ∷ []
-rights Admin flag = true ∷ true ∷ true ∷ true ∷ true ∷ []
+-- set 1, set 2, set 3; the security level, 01 or 11, makes no difference
+abbrev pub rights : Set → List Bool
+rights Debit = true ∷ true ∷ false ∷ false ∷ []
+rights Credit = true ∷ true ∷ true ∷ false ∷ []
+rights Admin = true ∷ true ∷ true ∷ true ∷ []
 
 -- the whole table: no channel, level 01, level 11
-pub record Table (set : Set) (flag : Bool) : Type 0 where
-  pub none : allowed Closed flag ≡ true ∷ false ∷ false ∷ false ∷ false ∷ []
-  pub mac : allowed (Mac set) flag ≡ rights set flag
-  pub rmac : allowed (Rmac set) flag ≡ rights set flag
+pub record Table (set : Set) : Type 0 where
+  pub none : allowed Closed ≡ true ∷ false ∷ false ∷ false ∷ []
+  pub mac : allowed (Mac set) ≡ rights set
+  pub rmac : allowed (Rmac set) ≡ rights set
 
--- every set, level and flag is so
-pub who-may : (set : Set) (flag : Bool) → Table set flag
+-- every set and level is so
+pub who-may : (set : Set) → Table set
 unfolding access accessOf
-who-may Debit flag = record { none = refl; mac = refl; rmac = refl }
-who-may Credit false = record { none = refl; mac = refl; rmac = refl }
-who-may Credit true = record { none = refl; mac = refl; rmac = refl }
-who-may Admin flag = record { none = refl; mac = refl; rmac = refl }
+who-may Debit = record { none = refl; mac = refl; rmac = refl }
+who-may Credit = record { none = refl; mac = refl; rmac = refl }
+who-may Admin = record { none = refl; mac = refl; rmac = refl }
 
 -- there is a channel exactly at level 01 or 11, and its answers carry an R-MAC exactly at 11
 pub record Open (level : Level) : Type 0 where

@@ -1,8 +1,8 @@
--- Access: document 01, "PUBLIC, DEBIT (set 1), CREDIT (set 2), CREDIT-IDENT (set 2 and PIN validated), ADMIN (set 3), each
--- including those below", and the security level. Assumes nothing.
+-- Access: document 01, "PUBLIC, DEBIT (set 1), CREDIT (set 2), .. ADMIN (set 3), each including those below", and the security level. 01's
+-- CREDIT-IDENT (set 2 and PIN validated) is no access any more: by request 1 of document 02 a bank credit needs CREDIT and the PIN flag,
+-- in commands_spec's `InitializeTransaction.entitled`, and nothing else asked for it. Assumes nothing.
 use mathlib.Core.Bool.{Bool, true, false}
 use Prim.Native.Nat.{ℕ}
-use Rattle.octets.specs.Choice.{pick}
 use Rattle.session.specs.declared.Set.{Set}
 use Rattle.session.specs.declared.Set.the-variants.{Debit, Credit, Admin}
 use Rattle.session.specs.declared.Level.{Level}
@@ -20,25 +20,21 @@ DEBIT = 1
 abbrev pub CREDIT : ℕ
 CREDIT = 2
 
--- set 2 and PIN validated
-abbrev pub CREDIT-IDENT : ℕ
-CREDIT-IDENT = 3
-
 -- set 3
 abbrev pub ADMIN : ℕ
-ADMIN = 4
+ADMIN = 3
 
--- what a key set gives, with the PIN flag
-unfoldable pub accessOf : Set → Bool → ℕ
-accessOf Debit verified = DEBIT
-accessOf Credit verified = pick verified CREDIT-IDENT CREDIT
-accessOf Admin verified = ADMIN
+-- what a key set gives
+unfoldable pub accessOf : Set → ℕ
+accessOf Debit = DEBIT
+accessOf Credit = CREDIT
+accessOf Admin = ADMIN
 
 -- what a channel gives
-unfoldable pub access : Level → Bool → ℕ
-access Closed verified = PUBLIC
-access (Mac set) verified = accessOf set verified
-access (Rmac set) verified = accessOf set verified
+unfoldable pub access : Level → ℕ
+access Closed = PUBLIC
+access (Mac set) = accessOf set
+access (Rmac set) = accessOf set
 
 -- whether there is a channel
 unfoldable pub isOpen : Level → Bool

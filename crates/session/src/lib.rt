@@ -21,7 +21,6 @@ pub use packing::pack;
 pub use packing::unpack;
 pub use rights::ADMIN;
 pub use rights::CREDIT;
-pub use rights::CREDIT_IDENT;
 pub use rights::DEBIT;
 pub use rights::PUBLIC;
 pub use rights::access;

@@ -1,4 +1,4 @@
-// What a channel and the PIN flag give access to.
+// What a channel gives access to.
 ghost use mathlib.Core.Path.{_≡_};
 ghost use Rattle.session.specs.Access.{accessOf, access, isOpen, hasRmac};
 use crate::Level;
@@ -11,34 +11,27 @@ pub const DEBIT: u8 = 1;
 
 pub const CREDIT: u8 = 2;
 
-pub const CREDIT_IDENT: u8 = 3;
+pub const ADMIN: u8 = 3;
 
-pub const ADMIN: u8 = 4;
-
-// What a key set gives, with the PIN flag.
-pub fn access_of(set: Set, verified: bool) -> u8
-    ensures { λ r. ⌜ r ≡ accessOf set verified ⌝ }
+// What a key set gives.
+pub fn access_of(set: Set) -> u8
+    ensures { λ r. ⌜ r ≡ accessOf set ⌝ }
 {
     match set {
         Set::Debit => DEBIT,
-        Set::Credit => {
-            if verified {
-                return CREDIT_IDENT;
-            }
-            CREDIT
-        }
+        Set::Credit => CREDIT,
         Set::Admin => ADMIN,
     }
 }
 
 // What a channel gives.
-pub fn access(level: Level, verified: bool) -> u8
-    ensures { λ r. ⌜ r ≡ access level verified ⌝ }
+pub fn access(level: Level) -> u8
+    ensures { λ r. ⌜ r ≡ access level ⌝ }
 {
     match level {
         Level::Closed => PUBLIC,
-        Level::Mac(set) => access_of(set, verified),
-        Level::Rmac(set) => access_of(set, verified),
+        Level::Mac(set) => access_of(set),
+        Level::Rmac(set) => access_of(set),
     }
 }
 

@@ -22,9 +22,9 @@ use octets::append4;
 use octets::append16;
 use octets::empty;
 use octets::word_at;
+use rules::entitled;
 use rules::initialize_status;
 use rules::lacks;
-use rules::needed;
 use session::Pending;
 use session::Session;
 use session::access;
@@ -45,12 +45,11 @@ fn initialize_judged(head: Head, session: Session, p1: u8, currency: u16, amount
     let channel = session.channel;
     let level = channel.level;
     let lacking = lacks(p1, bank.defined, pin.defined);
-    let right = access(level, session.verified);
+    let may = entitled(p1, access(level), session.verified);
     initialize_status(
         p.personalized,
         lacking,
-        right,
-        needed(p1),
+        may,
         has_rmac(level),
         state.number,
         shared.maxnumber,

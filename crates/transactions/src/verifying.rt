@@ -64,7 +64,7 @@ pub fn verify_pin(head: Head, session: Session, body: [u8; 8]) -> Outcome
     let channel = session.channel;
     let key = channel.enc;
     let level = channel.level;
-    let right = access(level, session.verified);
+    let right = access(level);
     let w = verify_status(p.personalized, pin.defined, right, state.tries);
     if w != 0x9000 {
         return refused(head, ended(session), w);

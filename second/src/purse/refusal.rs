@@ -1,5 +1,5 @@
-//! Why a command is refused: the rules of 01's order and of its command lines, with the status
-//! word of each.
+//! Why a command is refused: the rules of 01's order and of its command lines, mended by 02, with
+//! the status word of each.
 
 #[derive(Clone, Copy, Debug, PartialEq, Eq, PartialOrd, Ord, Hash)]
 pub enum Refusal {
@@ -19,6 +19,7 @@ pub enum Refusal {
     Limit,
     Feature,
     Access,
+    Flag,
     Level,
     Number,
     OtherAid,
@@ -40,7 +41,7 @@ impl Refusal {
         self.entry().0
     }
 
-    /// The rule in 01's words.
+    /// The rule in the papers' words.
     pub fn rule(self) -> &'static str {
         self.entry().1
     }
@@ -68,6 +69,7 @@ impl Refusal {
             Refusal::Limit => (0x6985, "it would pass a balance or number limit"),
             Refusal::Feature => (0x6A81, "step 8: feature missing"),
             Refusal::Access => (0x6982, "step 9: access"),
+            Refusal::Flag => (0x6982, "step 9: bank credit without the PIN flag"),
             Refusal::Level => (0x6982, "step 9: security level"),
             Refusal::Number => (0x9410, "step 10: the number is at its maximum"),
             Refusal::OtherAid => (0x6A82, "step 11: another AID, or none; deselected"),

@@ -54,21 +54,16 @@ pub enum Access {
     Public,
     Debit,
     Credit,
-    CreditIdent,
     Admin,
 }
 
 impl Session {
     pub fn access(&self) -> Access {
-        match (
-            self.channel.as_ref().map(|channel| channel.set),
-            self.validated,
-        ) {
-            (None, _) => Access::Public,
-            (Some(Set::Debit), _) => Access::Debit,
-            (Some(Set::Credit), false) => Access::Credit,
-            (Some(Set::Credit), true) => Access::CreditIdent,
-            (Some(Set::Admin), _) => Access::Admin,
+        match self.channel.as_ref().map(|channel| channel.set) {
+            None => Access::Public,
+            Some(Set::Debit) => Access::Debit,
+            Some(Set::Credit) => Access::Credit,
+            Some(Set::Admin) => Access::Admin,
         }
     }
 
@@ -104,8 +99,7 @@ impl Kind {
     pub fn access(self) -> Access {
         match self {
             Kind::Debit => Access::Debit,
-            Kind::Cash => Access::Credit,
-            Kind::Bank => Access::CreditIdent,
+            Kind::Cash | Kind::Bank => Access::Credit,
         }
     }
 }

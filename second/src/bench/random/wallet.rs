@@ -49,7 +49,7 @@ impl Player {
         let sets: &[Set] = match kind {
             Kind::Debit => &[Set::Debit, Set::Debit, Set::Credit, Set::Admin],
             Kind::Cash => &[Set::Credit, Set::Credit, Set::Admin, Set::Debit],
-            Kind::Bank => &[Set::Credit, Set::Credit, Set::Credit, Set::Admin],
+            Kind::Bank => &[Set::Credit, Set::Credit, Set::Admin, Set::Admin, Set::Debit],
         };
         self.ensure_both(sets);
         if let (Kind::Bank, Some(pin), true) = (kind, self.card().pin, self.one_in(2)) {

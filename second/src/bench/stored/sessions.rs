@@ -1,6 +1,7 @@
 //! Recorded sessions in 01's order: each step's refusals, then a card's life. They reach every
 //! rule that a bench file can reach.
 
+mod bank;
 mod life;
 mod pins;
 mod steps;
@@ -8,7 +9,7 @@ mod steps;
 use crate::bench::scenario::Scenario;
 
 pub fn file() -> Vec<u8> {
-    let parts: [fn(&mut Scenario); 16] = [
+    let parts: [fn(&mut Scenario); 17] = [
         steps::no_card,
         steps::malformed_commands,
         steps::classes_and_instructions,
@@ -21,6 +22,7 @@ pub fn file() -> Vec<u8> {
         pins::pins,
         pins::tries,
         life::access,
+        bank::credits,
         life::transactions,
         life::put_data_rules,
         life::chains,

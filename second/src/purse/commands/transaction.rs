@@ -17,6 +17,8 @@ pub fn initialize(turn: &mut Turn, apdu: &Apdu) -> Answer {
     let lacks_bank = turn.card.purse.bank.is_none() || turn.card.pin.is_none();
     refuse(kind == Kind::Bank && lacks_bank, Refusal::Feature)?;
     needs_access(turn, kind.access())?;
+    let lacks_flag = kind == Kind::Bank && !turn.session.validated;
+    refuse(lacks_flag, Refusal::Flag)?;
     needs_response_level(turn)?;
     refuse(turn.card.number >= turn.card.most_number, Refusal::Number)?;
     refuse(currency != turn.card.purse.currency, Refusal::Currency)?;

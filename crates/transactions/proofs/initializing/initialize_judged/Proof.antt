@@ -9,8 +9,8 @@ lacks-requires c κs = search needs
 access-requires : tie.Need-access-requires
 access-requires c κs = search needs
 
-needed-requires : tie.Need-needed-requires
-needed-requires c κs = search needs
+entitled-requires : tie.Need-entitled-requires
+entitled-requires c κs = search needs
 
 has-rmac-requires : tie.Need-has-rmac-requires
 has-rmac-requires c κs = search needs
@@ -22,9 +22,9 @@ returns : tie.Need-returns
 unfolding initializeJudged
 returns c =
     let r = c .before in
-    let n = r .before in
-    let a = n .before in
-    rw (← a .before .lacks .ensures, ← a .access .ensures, ← n .needed .ensures, ← r .has-rmac .ensures) (c .initialize-status .ensures)
+    let e = r .before in
+    let a = e .before in
+    rw (← a .before .lacks .ensures, ← a .access .ensures, ← e .entitled .ensures, ← r .has-rmac .ensures) (c .initialize-status .ensures)
 
 pub initialize-judged-spec : {M : Type 1} → statement M
 initialize-judged-spec =
@@ -32,7 +32,7 @@ initialize-judged-spec =
     (tie.spec
     lacks-requires
     access-requires
-    needed-requires
+    entitled-requires
     has-rmac-requires
     initialize-status-requires
     returns)
