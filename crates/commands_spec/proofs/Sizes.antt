@@ -40,7 +40,7 @@ use Rattle.apdu.proofs.Shapes.{header}
 use Rattle.commands_spec.specs.declared.outcome.Effect.{Effect}
 use Rattle.commands_spec.specs.declared.outcome.Outcome.{Outcome}
 use Rattle.commands_spec.specs.Outcomes.{refused, done}
-use Rattle.commands_spec.specs.Status.{administrative, operational}
+use Rattle.commands_spec.specs.Status.{operational}
 use Rattle.commands_spec.specs.Updates.{withState, keysOf, dekOf}
 use Rattle.commands_spec.specs.Data.{datum}
 use Rattle.commands_spec.specs.Select.{selectAnswer, selectOf}
@@ -98,13 +98,17 @@ module _ (c : Card) (p : Proper c) where
   unfolding operational
   length-operational h = refl
 
-  select-short : (verified : Bool) → length (selectAnswer H verified) ≤ 30
-  unfolding selectAnswer
-  select-short verified =
-      let a = length-append (H .purse .parameters .identifier) (administrative H verified ∷ operational H) in
+  -- SELECT's answer, whatever its status byte
+  answer-short : (x : ℕ) → length (H .purse .parameters .identifier ++ x ∷ operational H) ≤ 30
+  answer-short x =
+      let a = length-append (H .purse .parameters .identifier) (x ∷ operational H) in
       let b = p .sized .identifier .size in
       let d = length-operational H in
       omega arith
+
+  select-short : (verified : Bool) → length (selectAnswer H verified) ≤ 30
+  unfolding selectAnswer
+  select-short verified = answer-short _
 
   datum-short : (verified : Bool) (tag : ℕ) → length (datum H verified tag) ≤ 16
   unfolding datum
