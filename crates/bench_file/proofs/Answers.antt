@@ -1,7 +1,7 @@
 -- Every answer is one of document 01's list; and the line of a call is made of what the call said. Assumes nothing.
 use Prim.Native.Nat.{ℕ, _-_, _≤_, min}
 use mathlib.Core.Bool.{Bool, true, false}
-use mathlib.Core.List.{List}
+use mathlib.Core.List.{List, []}
 use mathlib.Core.Path.{_≡_, refl, _∙_}
 use native.Mathlib.Omega.{arith}
 use borrow.Author.Tests.{eq-eqb}
@@ -13,7 +13,7 @@ use Rattle.octets.specs.Choice.{pick}
 use Rattle.octets.specs.Buffers.{holding}
 use Rattle.session.specs.declared.Session.{Session}
 use Rattle.purse.specs.declared.calls.Called.{Called}
-use Rattle.purse.specs.Said.{said}
+use Rattle.purse.specs.Called.{Gives}
 use Rattle.purse_spec.specs.Calls.{Run}
 use Rattle.purse_spec.specs.Installation.{installation}
 use Rattle.purse_spec.specs.Startup.{startup}
@@ -45,40 +45,38 @@ response-printed r s s′ area n l z e f g = rw (eq-eqb (r .answer) 0 z, f, g, s
 
 module _ (m m′ : List ℕ) (s : Session) (r : Called) where
   -- what an installation said, and the line of its record
-  pub install-said : (d : List ℕ) (limit : ℕ) → (r ≡ said (installation m d limit)) × (m′ ≡ installation m d limit .memory) → r .answer ≤ 8
+  pub install-said : (d : List ℕ) (limit : ℕ) → Gives (installation m d limit) r m′ [] → r .answer ≤ 8
   unfolding run
-  install-said d limit e = rw (e .0) (omega (arith, most (install d limit) m s))
+  install-said d limit e = rw (e .called) (omega (arith, most (install d limit) m s))
 
-  pub install-runs : (p : Printed) (d x : List ℕ) (limit n : ℕ) → n ≡ limit → x ≡ d → (r ≡ said (installation m x n)) × (m′ ≡ installation m x n .memory)
+  pub install-runs : (p : Printed) (d x : List ℕ) (limit n : ℕ) → n ≡ limit → x ≡ d → Gives (installation m x n) r m′ []
       → p ≡ answerPrinted 0x49 r s → Runs (install d limit) m s p m′
   unfolding printed line ran run moved
-  install-runs p d x limit n h g e f = rw (← h, ← g) (rw (f, e .0), e .1)
+  install-runs p d x limit n h g e f = rw (← h, ← g) (rw (f, e .called), e .memory)
 
   -- the same of a start-up
-  pub start-said : (limit : ℕ) → (r ≡ said (startup m limit)) × (m′ ≡ startup m limit .memory) → r .answer ≤ 8
+  pub start-said : (limit : ℕ) → Gives (startup m limit) r m′ [] → r .answer ≤ 8
   unfolding run
-  start-said limit e = rw (e .0) (omega (arith, most (start limit) m s))
+  start-said limit e = rw (e .called) (omega (arith, most (start limit) m s))
 
-  pub start-runs : (p : Printed) (limit n : ℕ) → n ≡ limit → (r ≡ said (startup m n)) × (m′ ≡ startup m n .memory) → p ≡ answerPrinted 0x53 r s → Runs (start limit) m s p m′
+  pub start-runs : (p : Printed) (limit n : ℕ) → n ≡ limit → Gives (startup m n) r m′ [] → p ≡ answerPrinted 0x53 r s → Runs (start limit) m s p m′
   unfolding printed line ran run moved
-  start-runs p limit n h e f = rw (← h) (rw (f, e .0), e .1)
+  start-runs p limit n h e f = rw (← h) (rw (f, e .called), e .memory)
 
   -- the same of a command, with its response
   abbrev pub Sent : (bytes random area area′ : List ℕ) (limit : ℕ) → Type 0
-  Sent bytes random area area′ limit =
-      let x = command m s bytes random area limit in
-      (r ≡ said x) × (m′ ≡ x .memory) × (area′ ≡ x .response)
+  Sent bytes random area area′ limit = Gives (command m s bytes random area limit) r m′ area′
 
   pub command-said : (bytes random area area′ : List ℕ) (limit : ℕ) → Sent bytes random area area′ limit → r .answer ≤ 8
   unfolding run
-  command-said bytes random area area′ limit e = rw (e .0) (omega (arith, most (send bytes random area limit) m s))
+  command-said bytes random area area′ limit e = rw (e .called) (omega (arith, most (send bytes random area limit) m s))
 
   pub command-runs : (p : Printed) (bytes x random area area′ : List ℕ) (limit n : ℕ) → n ≡ limit → x ≡ bytes → Sent x random area area′ n
       → p ≡ responsePrinted r s area′ → Runs (send bytes random area limit) m s p m′
   unfolding printed line ran run moved responsePrinted
   command-runs p bytes x random area area′ limit n h g e f =
       let y = command m s x random area n in
-      rw (← h, ← g) (f ∙ rw (e .2, e .0) (by y (eqb (y .answer) 0)), e .1)
+      rw (← h, ← g) (f ∙ rw (e .response, e .called) (by y (eqb (y .answer) 0)), e .memory)
     where
       by : (y : Run) (b : Bool)
           → _≡_ {A = Printed} (pick b (record { line = holding (responseLine (take (y .length) (y .response))); session = sessionAfter s (y .answer) (y .session) })

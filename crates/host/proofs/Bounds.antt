@@ -14,13 +14,13 @@ use Rattle.stores.specs.Stores.{Store, answers, reports}
 use Rattle.session.specs.declared.Session.{Session}
 use Rattle.session.specs.Session.{unselected}
 use Rattle.session.proofs.Sizes.{Sized, unselected-sized}
-use Rattle.commands_spec.specs.Respond.{respond}
 use Rattle.commands_spec.proofs.Sizes.{reply-short}
-use Rattle.purse_spec.specs.Calls.{Run, refusal}
+use Rattle.purse_spec.specs.Calls.{Run, refusal, performed}
 use Rattle.purse_spec.specs.Installation.{installation}
 use Rattle.purse_spec.specs.Startup.{startup}
-use Rattle.purse_spec.specs.Commands.{outcomePlan, performed, command}
+use Rattle.purse_spec.specs.Commands.{command}
 use Rattle.purse_spec.specs.History.{Call, install, start, send, State, limited, OfBytes, run}
+use Rattle.purse_spec.proofs.Performed.{by-limit}
 use Rattle.purse_spec.proofs.Runs.{installation-runs, startup-runs, command-runs}
 use Rattle.purse_spec.proofs.Counts.{Shape, refuses, stores, shape}
 use Rattle.purse_spec.proofs.Typed.{Typed, sound-of}
@@ -82,13 +82,17 @@ alone m = record { memory = m; session = unselected; cut = false }
 pub alone-typed : (m : List ℕ) → AreBytes m → Typed (alone m)
 alone-typed m f = record { memory = f; session = unselected-sized }
 
+performed-small : (p : List Store) (limit : ℕ) (m : List ℕ) (s : Session) (reply area : List ℕ) → length reply < 256 → performed p limit m s reply area .length < 256
+unfolding performed
+performed-small p limit m s reply area h = by-limit (λ (r : Run). r .length < 256) limit _ _ _ (λ k. omega arith) (λ k. h)
+
 pub installation-small : (m d : List ℕ) (limit : ℕ) → AreBytes m → AreBytes d → Small (installation m d limit)
 unfolding run limited OfBytes refusal
 installation-small m d limit f g =
     let n = run-few (install d limit) (alone m) (alone-typed m f) g limit in
     record {
       answer = n .0;
-      size = installation-runs m (λ (r : ℕ → Run). r limit .length < 256) d (λ n k l. omega arith) (λ e t. omega arith);
+      size = installation-runs m (λ (r : ℕ → Run). r limit .length < 256) d (λ n k l. omega arith) (λ e t. performed-small _ limit m _ _ _ (omega arith));
       count = n .1;
     }
 
@@ -98,13 +102,13 @@ startup-small m limit f =
     let n = run-few (start limit) (alone m) (alone-typed m f) tt limit in
     record {
       answer = n .0;
-      size = startup-runs m (λ (r : ℕ → Run). r limit .length < 256) (λ n k l. omega arith) (λ t. omega arith);
+      size = startup-runs m (λ (r : ℕ → Run). r limit .length < 256) (λ n k l. omega arith) (λ t. performed-small _ limit m _ _ _ (omega arith));
       count = n .1;
     }
 
 pub command-small : (m : List ℕ) (s : Session) (bytes random area : List ℕ) (limit : ℕ) → AreBytes m → Sized s → AreBytes bytes → AreBytes random
     → Small (command m s bytes random area limit)
-unfolding run limited OfBytes refusal performed
+unfolding run limited OfBytes refusal
 command-small m s bytes random area limit f z a b =
     let n = run-few (send bytes random area limit) (record { memory = m; session = s; cut = false }) (record { memory = f; session = z }) (a, b) limit in
     record {
@@ -112,6 +116,6 @@ command-small m s bytes random area limit f z a b =
       size = command-runs m (λ (r : ℕ → Run). r limit .length < 256) s bytes random area (λ n k l. omega arith)
           (λ c t u e.
           let k = reply-short c s bytes random (sound-of m c s bytes random f e z a b u) .1 in
-          pick-holds (λ (r : Run). r .length < 256) (ltb limit (length (outcomePlan c (respond c s bytes random) m))) _ _ (λ v. omega arith) (λ v. omega arith));
+          performed-small _ limit m _ _ area (omega arith));
       count = n .1;
     }

@@ -13,13 +13,10 @@ use Rattle.session.specs.declared.Session.{Session}
 use Rattle.session.specs.declared.packing.Unpacked.{Unpacked}
 use Rattle.session.specs.Packing.{packed, unpacked, shown, unpacking}
 use Rattle.session.proofs.Reading.{unpacking-ok, reads-array}
-use Rattle.purse_spec.specs.Calls.{Run, refusal}
-use Rattle.purse_spec.specs.Installation.{installation}
-use Rattle.purse_spec.specs.Startup.{startup}
+use Rattle.purse_spec.specs.Calls.{Run}
 use Rattle.purse_spec.specs.Commands.{leastArea, command}
-use Rattle.purse_spec.proofs.Runs.{installation-runs, startup-runs}
 use Rattle.purse.specs.declared.calls.Called.{Called}
-use Rattle.purse.specs.Said.{said}
+use Rattle.purse.specs.Called.{Gives}
 use Rattle.host.specs.Host.{sessionSize, handed, number, areaAfter, outcome, lengthTested, inSession, commandCall}
 use Rattle.host.proofs.Bounds.{Small}
 
@@ -37,24 +34,17 @@ module _ (answer : ℕ) (s : Session) (area : List ℕ) (h : length area ≡ ses
 
 -- ---- what is handed back
 
--- what the number asks of a call that says what a small run says
-pub said-small : (c : Called) (r : Run) → c ≡ said r → Small r → (c .length < 256) × (c .count < 65536)
-said-small c r e s = rw e (s .size, s .count)
+-- what the number asks of a call that gives a small run
+pub gives-small : (r : Run) (c : Called) (m area : List ℕ) → Gives r c m area → Small r → (c .length < 256) × (c .count < 65536)
+gives-small r c m area e s = rw (e .called) (s .size, s .count)
 
 -- installation and start-up, which have no response
-pub tested : (m area : List ℕ) (r : Run) (c : Called) (n : ℕ) (m′ area′ : List ℕ) → length m ≡ memorySize → length area ≡ sessionSize → r .response ≡ []
-    → c ≡ said r → m′ ≡ r .memory → n ≡ number (c .answer) (c .length) (c .count) → area′ ≡ areaAfter (c .answer) (c .session) area
+pub tested : (m area : List ℕ) (r : Run) (c : Called) (n : ℕ) (m′ area′ : List ℕ) → length m ≡ memorySize → length area ≡ sessionSize
+    → Gives r c m′ [] → n ≡ number (c .answer) (c .length) (c .count) → area′ ≡ areaAfter (c .answer) (c .session) area
     → handed n m′ area′ [] ≡ lengthTested m area r
 unfolding lengthTested outcome
-tested m area r c n m′ area′ h k q e p w a = rw (eq-eqb (length m) memorySize h, eq-eqb (length area) sessionSize k, a, w, p, e, q)
-
-pub no-response-installation : (m d : List ℕ) (limit : ℕ) → installation m d limit .response ≡ []
-unfolding refusal
-no-response-installation m d limit = installation-runs m (λ (r : ℕ → Run). r limit .response ≡ []) d (λ n k l. refl) (λ e t. refl)
-
-pub no-response-startup : (m : List ℕ) (limit : ℕ) → startup m limit .response ≡ []
-unfolding refusal
-no-response-startup m limit = startup-runs m (λ (r : ℕ → Run). r limit .response ≡ []) (λ n k l. refl) (λ t. refl)
+tested m area r c n m′ area′ h k g w a =
+    rw (eq-eqb (length m) memorySize h, eq-eqb (length area) sessionSize k, a, w, g .memory, g .called, ← g .response)
 
 -- ---- a command
 
@@ -77,11 +67,10 @@ module _ (m area bytes random response : List ℕ) (limit : ℕ) (u : Unpacked) 
 
     -- or as one
     pub command-run : (c : Called) (n : ℕ) (m′ area′ response′ : List ℕ) → u .ok ≡ true
-        → (c ≡ said (command m (u .session) bytes random response limit)) × (m′ ≡ command m (u .session) bytes random response limit .memory)
-        × (response′ ≡ command m (u .session) bytes random response limit .response)
+        → Gives (command m (u .session) bytes random response limit) c m′ response′
         → (n ≡ number (c .answer) (c .length) (c .count)) × (area′ ≡ areaAfter (c .answer) (c .session) area)
         → handed n m′ area′ response′ ≡ commandCall m area bytes random response limit
     unfolding commandCall inSession outcome
     command-run c n m′ area′ response′ k r w =
         let o : unpacked area ≡ some (u .session) = rw e (unpacking-ok area (ap (λ (x : Unpacked). x .ok) (sym e) ∙ k)) in
-        rw (eq-eqb (length m) memorySize a, le-ltb (length response) leastArea b, eq-eqb (length random) 8 d, o, w .1, w .0, r .2, r .1, r .0)
+        rw (eq-eqb (length m) memorySize a, le-ltb (length response) leastArea b, eq-eqb (length random) 8 d, o, w .1, w .0, r .response, r .memory, r .called)

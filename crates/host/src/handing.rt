@@ -33,7 +33,8 @@ fn leave(area: &mut [u8], answer: u8, session: Session)
 // The number of a call, and the session area behind it.
 pub fn hand_back(area: &mut [u8], called: Called) -> u64
     requires { ⌜ (length (now area) ≡ sessionSize) × (called .length < 256) × (called .count < 65536) ⌝ }
-    ensures { λ r. ⌜ (r ≡ number (called .answer) (called .length) (called .count)) × (now (area .exit) ≡ areaAfter (called .answer) (called .session) (now (area .entry))) ⌝ }
+    ensures { λ r. ⌜ (r ≡ number (called .answer) (called .length) (called .count))
+        × (now (area .exit) ≡ areaAfter (called .answer) (called .session) (now (area .entry))) ⌝ }
 {
     let session = called.session;
     leave(area, called.answer, session);

@@ -21,7 +21,8 @@ pub extern "C" fn purse_install(
     bytes: &[u8],
     limit: usize,
 ) -> u64
-    ensures { λ r. ⌜ handed r (now (memory .exit)) (now (session .exit)) [] ≡ installCall (now (memory .entry)) (now (session .entry)) (now (bytes .entry)) limit ⌝ }
+    ensures { λ r. ⌜ handed r (now (memory .exit)) (now (session .exit)) []
+        ≡ installCall (now (memory .entry)) (now (session .entry)) (now (bytes .entry)) limit ⌝ }
 {
     if memory.len() != layout::MEMORY_SIZE {
         return 1;
@@ -36,7 +37,8 @@ pub extern "C" fn purse_install(
 // Start-up: the unselected session on a card.
 #[no_mangle]
 pub extern "C" fn purse_start_up(memory: &mut [u8], session: &mut [u8], limit: usize) -> u64
-    ensures { λ r. ⌜ handed r (now (memory .exit)) (now (session .exit)) [] ≡ startCall (now (memory .entry)) (now (session .entry)) limit ⌝ }
+    ensures { λ r. ⌜ handed r (now (memory .exit)) (now (session .exit)) []
+        ≡ startCall (now (memory .entry)) (now (session .entry)) limit ⌝ }
 {
     if memory.len() != layout::MEMORY_SIZE {
         return 1;
@@ -58,7 +60,9 @@ pub extern "C" fn purse_command(
     response: &mut [u8],
     limit: usize,
 ) -> u64
-    ensures { λ r. ⌜ handed r (now (memory .exit)) (now (session .exit)) (now (response .exit)) ≡ commandCall (now (memory .entry)) (now (session .entry)) (now (command .entry)) (now (random .entry)) (now (response .entry)) limit ⌝ }
+    ensures { λ r. ⌜ handed r (now (memory .exit)) (now (session .exit)) (now (response .exit))
+        ≡ commandCall (now (memory .entry)) (now (session .entry)) (now (command .entry))
+        (now (random .entry)) (now (response .entry)) limit ⌝ }
 {
     if memory.len() != layout::MEMORY_SIZE {
         return 1;

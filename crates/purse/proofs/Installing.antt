@@ -1,15 +1,15 @@
 -- Installation, by its tests. Assumes nothing.
 use Prim.Native.Nat.{ℕ, _+_, _≤_}
 use mathlib.Core.Bool.{Bool, true, false, _&&_, false≢true}
-use mathlib.Core.List.{List}
+use mathlib.Core.List.{List, []}
 use mathlib.Core.Path.{_≡_, refl}
 use native.Mathlib.Omega.{arith}
 use borrow.Author.Tests.{eq-eqb, ne-eqb, eqb-true}
 use lib.Dec.{eqb, leb, ltb}
 use lib.ListN.{length}
 use Rattle.octets.specs.Choice.{pick}
-use Rattle.octets.specs.Bytes.{byteAt}
-use Rattle.stores.specs.Stores.{leaves, answers, reports}
+use Rattle.octets.specs.Bytes.{byteAt, paste}
+use Rattle.stores.specs.Stores.{leaves}
 use Rattle.card.specs.declared.head.Fixed.{Fixed}
 use Rattle.card.specs.declared.head.KeySet.{KeySet}
 use Rattle.card.specs.Layout.{memorySize}
@@ -18,7 +18,8 @@ use Rattle.session.specs.Session.{unselected}
 use Rattle.purse_spec.specs.Calls.{refusal}
 use Rattle.purse_spec.specs.Installation.{dataOk, fixedOf, keysOf, installation}
 use Rattle.purse.specs.declared.calls.Called.{Called}
-use Rattle.purse.specs.Said.{said, storeless, finished}
+use Rattle.purse.specs.Called.{Gives, storeless, underLimit}
+use Rattle.purse.proofs.Outcomes.{performed-gives}
 
 left : (a b : Bool) → (a && b) ≡ true → a ≡ true
 left true b e = refl
@@ -44,27 +45,25 @@ aid-within d e =
 
 -- what installation says and leaves
 abbrev pub Installed : List ℕ → List ℕ → ℕ → Called → List ℕ → Type 0
-Installed m d limit r m′ = (r ≡ said (installation m d limit)) × (m′ ≡ installation m d limit .memory)
+Installed m d limit r m′ = Gives (installation m d limit) r m′ []
 
 module _ (m d : List ℕ) (limit : ℕ) (r : Called) where
   pub install-sized : (length m ≡ memorySize → ⊥) → r ≡ storeless 1 unselected → Installed m d limit r m
   unfolding installation refusal
-  install-sized h e = let t : eqb (length m) memorySize ≡ false = ne-eqb _ _ h in rw (t, e) (refl, refl)
+  install-sized h e = let t : eqb (length m) memorySize ≡ false = ne-eqb _ _ h in rw (t, e) (record { called = refl; memory = refl; response = refl })
 
   pub install-data : length m ≡ memorySize → dataOk d ≡ false → r ≡ storeless 6 unselected → Installed m d limit r m
   unfolding installation refusal
-  install-data h f e = let t : eqb (length m) memorySize ≡ true = eq-eqb _ _ h in rw (t, f, e) (refl, refl)
+  install-data h f e = let t : eqb (length m) memorySize ≡ true = eq-eqb _ _ h in rw (t, f, e) (record { called = refl; memory = refl; response = refl })
 
   pub install-run : (m′ : List ℕ) (fixed : Fixed) (admin : KeySet) (n : ℕ) → length m ≡ memorySize → dataOk d ≡ true
       → fixed ≡ fixedOf d → admin ≡ keysOf d → n ≡ length (installPlan fixed admin) → m′ ≡ leaves (installPlan fixed admin) limit m
-      → r ≡ finished n limit 0 unselected → Installed m d limit r m′
-  unfolding installation refusal finished answers reports
+      → r ≡ underLimit n limit 0 unselected → Installed m d limit r m′
+  unfolding installation paste
   install-run m′ fixed admin n h f p q i j e =
       let t : eqb (length m) memorySize ≡ true = eq-eqb _ _ h in
-      rw (t, f, ← p, ← q, ← i, e, j) (by-limit (ltb limit n), refl)
+      rw (t, f, ← p, ← q) (performed-gives (installPlan fixed admin) limit m unselected [] [] n 0 m′ [] r i refl j (none (ltb limit n)) e)
     where
-      by-limit : (b : Bool)
-          → _≡_ {A = Called} (pick b (record { answer = 7; count = limit; length = 0; session = unselected }) (record { answer = 0; count = n; length = 0; session = unselected }))
-          (record { answer = pick b 7 0; count = pick b limit n; length = 0; session = unselected })
-      by-limit true = refl
-      by-limit false = refl
+      none : (b : Bool) → _≡_ {A = List ℕ} [] (pick b [] [])
+      none true = refl
+      none false = refl

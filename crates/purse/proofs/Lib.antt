@@ -1,4 +1,4 @@
+pub mod Outcomes
 pub mod Starting
 pub mod Installing
-pub mod Outcomes
 pub mod Requests

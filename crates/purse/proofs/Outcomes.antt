@@ -16,17 +16,15 @@ use Rattle.card.specs.declared.head.State.{State}
 use Rattle.card.specs.Card.{Card}
 use Rattle.card.specs.Changes.{Change, state, plan}
 use Rattle.card.proofs.Bounds.{plan-length}
+use Rattle.session.specs.declared.Session.{Session}
 use Rattle.session.specs.Session.{unselected}
 use Rattle.commands_spec.specs.declared.outcome.Outcome.{Outcome}
 use Rattle.commands_spec.specs.Outcomes.{changesOf}
-use Rattle.purse_spec.specs.Calls.{Run}
-use Rattle.purse_spec.specs.Commands.{plans, outcomePlan, performed}
+use Rattle.purse_spec.specs.Calls.{performed}
+use Rattle.purse_spec.specs.Commands.{plans, outcomePlan, outcomeRun}
 use Rattle.purse.specs.declared.calls.Called.{Called}
-use Rattle.purse.specs.Said.{said, finished}
-
--- the stores of changes in a row were made under a limit: n in all, and m′ is left
-abbrev pub Made : List Change → List ℕ → ℕ → ℕ → List ℕ → Type 0
-Made xs m limit n m′ = (n ≡ length (plans xs m)) × (m′ ≡ leaves (plans xs m) limit m)
+use Rattle.purse.specs.Called.{Gives, underLimit}
+use Rattle.purse.specs.Made.{Made}
 
 module _ (m : List ℕ) (limit : ℕ) where
   pub made-none : Made [] m limit 0 m
@@ -57,24 +55,28 @@ module _ (m : List ℕ) (limit : ℕ) where
 pub state-count : (s : State) (m : List ℕ) (n : ℕ) → n ≡ length (plan (state s) m) → n ≡ 8
 state-count s m n e = e ∙ plan-length (state s) m tt
 
--- what a run of an outcome gives
-module _ (c : Card) (o : Outcome) (m area : List ℕ) (limit : ℕ) where
-  -- cut, and finished
-  abbrev cut-run : List ℕ → Run
-  cut-run m′ = record { answer = 7; count = limit; session = unselected; memory = m′; length = 0; response = area }
+-- ---- what a run of a plan gives
 
-  abbrev done-run : ℕ → ℕ → List ℕ → Run
-  done-run n k m′ = record { answer = 0; count = n; session = o .session; memory = m′; length = k; response = paste area 0 (content (o .reply)) }
+module _ (p : List Store) (limit : ℕ) (m : List ℕ) (s : Session) (reply area : List ℕ) where
+  pub performed-gives : (n k : ℕ) (m′ area′ : List ℕ) (r : Called) → n ≡ length p → k ≡ length reply → m′ ≡ leaves p limit m
+      → area′ ≡ pick (ltb limit n) area (paste area 0 reply) → r ≡ underLimit n limit k s → Gives (performed p limit m s reply area) r m′ area′
+  unfolding performed underLimit
+  performed-gives n k m′ area′ r a b c d e = rw (e, d, c, a, b) (by-limit (ltb limit (length p)))
+    where
+      by-limit : (b : Bool)
+          → Gives
+          (pick b (record { answer = 7; count = limit; session = unselected; memory = leaves p limit m; length = 0; response = area })
+          (record { answer = 0; count = length p; session = s; memory = leaves p limit m; length = length reply; response = paste area 0 reply }))
+          (pick b (record { answer = 7; count = limit; length = 0; session = unselected }) (record { answer = 0; count = length p; length = length reply; session = s }))
+          (leaves p limit m) (pick b area (paste area 0 reply))
+      by-limit true = record { called = refl; memory = refl; response = refl }
+      by-limit false = record { called = refl; memory = refl; response = refl }
 
-  by-limit : (b : Bool) (n k : ℕ) (m′ : List ℕ)
-      → (pick b (said (cut-run m′)) (said (done-run n k m′)) ≡ said (pick b (cut-run m′) (done-run n k m′)))
-      × (m′ ≡ pick b (cut-run m′) (done-run n k m′) .memory)
-      × (pick b area (paste area 0 (content (o .reply))) ≡ pick b (cut-run m′) (done-run n k m′) .response)
-  by-limit true n k m′ = (refl, refl, refl)
-  by-limit false n k m′ = (refl, refl, refl)
-
-  pub performed-run : (n k : ℕ) (m′ area′ : List ℕ) (r : Called) → Made (changesOf (o .effect) (c .head .state) (o .head) (o .entry)) m limit n m′
-      → area′ ≡ pick (ltb limit n) area (paste area 0 (content (o .reply))) → k ≡ length (content (o .reply)) → r ≡ finished n limit k (o .session)
-      → (r ≡ said (performed c o m area limit)) × (m′ ≡ performed c o m area limit .memory) × (area′ ≡ performed c o m area limit .response)
-  unfolding performed outcomePlan finished
-  performed-run n k m′ area′ r a b e f = rw (← a .0, ← a .1, ← e, b, f) (by-limit (ltb limit n) n k m′)
+-- of an outcome
+pub outcome-gives : (c : Card) (o : Outcome) (m area : List ℕ) (limit n k : ℕ) (m′ area′ : List ℕ) (r : Called)
+    → Made (changesOf (o .effect) (c .head .state) (o .head) (o .entry)) m limit n m′
+    → area′ ≡ pick (ltb limit n) area (paste area 0 (content (o .reply))) → k ≡ length (content (o .reply)) → r ≡ underLimit n limit k (o .session)
+    → Gives (outcomeRun c o m area limit) r m′ area′
+unfolding outcomePlan
+outcome-gives c o m area limit n k m′ area′ r a b e f =
+    performed-gives (outcomePlan c o m) limit m (o .session) (content (o .reply)) area n k m′ area′ r (a .0) e (a .1) b f

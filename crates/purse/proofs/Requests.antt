@@ -24,10 +24,10 @@ use Rattle.session.specs.declared.Session.{Session}
 use Rattle.commands_spec.specs.declared.outcome.Outcome.{Outcome}
 use Rattle.commands_spec.specs.ReadRecord.{asked}
 use Rattle.commands_spec.specs.Respond.{respondTo, respond}
-use Rattle.purse_spec.specs.Calls.{Run, refusal, awaits}
-use Rattle.purse_spec.specs.Commands.{leastArea, performed, onCard, command}
+use Rattle.purse_spec.specs.Calls.{refusal, awaits}
+use Rattle.purse_spec.specs.Commands.{leastArea, outcomeRun, onCard, command}
 use Rattle.purse.specs.declared.calls.Called.{Called}
-use Rattle.purse.specs.Said.{said, storeless}
+use Rattle.purse.specs.Called.{Gives, storeless}
 
 -- eight bytes are all of the eight
 pub drawn-whole : (s : List ℕ) → length s ≡ 8 → field s 0 8 ≡ s
@@ -48,15 +48,11 @@ record-asked m k e =
       | no h ↦ row-at n k (recordIn m) void (lt-of-not-le h)
     ]
 
--- what a command says and leaves
-abbrev pub Gives : Run → Called → List ℕ → List ℕ → Type 0
-Gives x r m′ area′ = (r ≡ said x) × (m′ ≡ x .memory) × (area′ ≡ x .response)
-
 module _ (m : List ℕ) (s : Session) (bytes random area : List ℕ) (limit : ℕ) (r : Called) where
   -- on a card in hand
   pub on-card : (h : Head) (x : List ℕ) (drawn : List ℕ) (o : Outcome) (m′ area′ : List ℕ) → readable m ≡ true → h ≡ headIn m → length random ≡ 8
       → x ≡ recordIn m (asked bytes) → drawn ≡ field random 0 8 → o ≡ respondTo h x s bytes drawn
-      → ((c : Card) → c .head .state ≡ h .state → Gives (performed c o m area limit) r m′ area′)
+      → ((c : Card) → c .head .state ≡ h .state → Gives (outcomeRun c o m area limit) r m′ area′)
       → Gives (onCard (readCard m) m s bytes random area limit) r m′ area′
   unfolding onCard awaits respond
   on-card h x drawn o m′ area′ e p n q d t f =
@@ -68,14 +64,14 @@ module _ (m : List ℕ) (s : Session) (bytes random area : List ℕ) (limit : �
 
   pub memory-sized : (length m ≡ memorySize → ⊥) → Answered 1
   unfolding command refusal
-  memory-sized h e = let t : eqb (length m) memorySize ≡ false = ne-eqb _ _ h in rw (t, e) (refl, refl, refl)
+  memory-sized h e = let t : eqb (length m) memorySize ≡ false = ne-eqb _ _ h in rw (t, e) (record { called = refl; memory = refl; response = refl })
 
   pub area-sized : length m ≡ memorySize → length area < leastArea → Answered 3
   unfolding command refusal
   area-sized h a e =
       let t : eqb (length m) memorySize ≡ true = eq-eqb _ _ h in
       let u : ltb (length area) leastArea ≡ true = lt-ltb _ _ a in
-      rw (t, u, e) (refl, refl, refl)
+      rw (t, u, e) (record { called = refl; memory = refl; response = refl })
 
   pub random-sized : length m ≡ memorySize → leastArea ≤ length area → (length random ≡ 8 → ⊥) → Answered 4
   unfolding command refusal
@@ -83,7 +79,7 @@ module _ (m : List ℕ) (s : Session) (bytes random area : List ℕ) (limit : �
       let t : eqb (length m) memorySize ≡ true = eq-eqb _ _ h in
       let u : ltb (length area) leastArea ≡ false = le-ltb _ _ a in
       let v : eqb (length random) 8 ≡ false = ne-eqb _ _ n in
-      rw (t, u, v, e) (refl, refl, refl)
+      rw (t, u, v, e) (record { called = refl; memory = refl; response = refl })
 
   -- past the three
   passed : length m ≡ memorySize → leastArea ≤ length area → length random ≡ 8 → command m s bytes random area limit ≡ onCard (readCard m) m s bytes random area limit
@@ -96,7 +92,7 @@ module _ (m : List ℕ) (s : Session) (bytes random area : List ℕ) (limit : �
 
   pub no-card : length m ≡ memorySize → leastArea ≤ length area → length random ≡ 8 → readable m ≡ false → Answered 2
   unfolding readCard onCard refusal
-  no-card h a n f e = rw (passed h a n, f, e) (refl, refl, refl)
+  no-card h a n f e = rw (passed h a n, f, e) (record { called = refl; memory = refl; response = refl })
 
   pub a-card : (m′ area′ : List ℕ) → length m ≡ memorySize → leastArea ≤ length area → length random ≡ 8
       → Gives (onCard (readCard m) m s bytes random area limit) r m′ area′ → Gives (command m s bytes random area limit) r m′ area′

@@ -1,6 +1,6 @@
 // What a call says.
 ghost use mathlib.Core.Path.{_≡_};
-ghost use Rattle.purse.specs.Said.{storeless, finished};
+ghost use Rattle.purse.specs.Called.{storeless, underLimit};
 use session::Session;
 use session::unselected;
 
@@ -27,7 +27,7 @@ pub fn storeless(answer: u8, session: Session) -> Called
 
 // A run of `n` stores under a limit: 0, or 7.
 pub fn finish(n: usize, limit: usize, length: usize, session: Session) -> Called
-    ensures { λ r. ⌜ r ≡ finished n limit length session ⌝ }
+    ensures { λ r. ⌜ r ≡ underLimit n limit length session ⌝ }
 {
     if limit < n {
         let none = unselected();

@@ -5,7 +5,7 @@ ghost use lib.ListN.{length};
 ghost use Rattle.card.specs.Reading.{headIn, recordIn, readable, readCard};
 ghost use Rattle.commands_spec.specs.ReadRecord.{asked};
 ghost use Rattle.purse_spec.specs.Commands.{onCard, command};
-ghost use Rattle.purse.specs.Said.{said};
+ghost use Rattle.purse.specs.Called.{Gives};
 use crate::calls::Called;
 use crate::calls::storeless;
 use crate::performing::perform;
@@ -42,9 +42,8 @@ fn run(
     limit: usize,
 ) -> Called
     requires { ⌜ (readable (now memory) ≡ true) × (head ≡ headIn (now memory)) × (length (now random) ≡ 8) ⌝ }
-    ensures { λ r. ⌜ (r ≡ said (onCard (readCard (now (memory .entry))) (now (memory .entry)) session (now (bytes .entry)) (now (random .entry)) (now (area .entry)) limit))
-        × (now (memory .exit) ≡ onCard (readCard (now (memory .entry))) (now (memory .entry)) session (now (bytes .entry)) (now (random .entry)) (now (area .entry)) limit .memory)
-        × (now (area .exit) ≡ onCard (readCard (now (memory .entry))) (now (memory .entry)) session (now (bytes .entry)) (now (random .entry)) (now (area .entry)) limit .response) ⌝ }
+    ensures { λ r. ⌜ Gives (onCard (readCard (now (memory .entry))) (now (memory .entry)) session
+        (now (bytes .entry)) (now (random .entry)) (now (area .entry)) limit) r (now (memory .exit)) (now (area .exit)) ⌝ }
 {
     let state = head.state;
     let entry = asked_record(memory, bytes);
@@ -62,9 +61,8 @@ pub fn command(
     area: &mut [u8],
     limit: usize,
 ) -> Called
-    ensures { λ r. ⌜ (r ≡ said (command (now (memory .entry)) session (now (bytes .entry)) (now (random .entry)) (now (area .entry)) limit))
-        × (now (memory .exit) ≡ command (now (memory .entry)) session (now (bytes .entry)) (now (random .entry)) (now (area .entry)) limit .memory)
-        × (now (area .exit) ≡ command (now (memory .entry)) session (now (bytes .entry)) (now (random .entry)) (now (area .entry)) limit .response) ⌝ }
+    ensures { λ r. ⌜ Gives (command (now (memory .entry)) session (now (bytes .entry)) (now (random .entry)) (now (area .entry)) limit)
+        r (now (memory .exit)) (now (area .exit)) ⌝ }
 {
     if memory.len() != layout::MEMORY_SIZE {
         return storeless(1, session);

@@ -1,8 +1,9 @@
 // Installation: a fresh card on any memory. `bytes` are the installation data.
 ghost use mathlib.Core.Bool.{true};
+ghost use mathlib.Core.List.{[]};
 ghost use mathlib.Core.Path.{_≡_};
 ghost use Rattle.purse_spec.specs.Installation.{dataOk, fixedOf, keysOf, installation};
-ghost use Rattle.purse.specs.Said.{said};
+ghost use Rattle.purse.specs.Called.{Gives};
 use crate::calls::Called;
 use crate::calls::finish;
 use crate::calls::storeless;
@@ -75,8 +76,7 @@ fn keys_of(bytes: &[u8]) -> KeySet
 
 // Answers 0, 1, 6 and 7.
 pub fn install(memory: &mut [u8], bytes: &[u8], limit: usize) -> Called
-    ensures { λ r. ⌜ (r ≡ said (installation (now (memory .entry)) (now (bytes .entry)) limit))
-        × (now (memory .exit) ≡ installation (now (memory .entry)) (now (bytes .entry)) limit .memory) ⌝ }
+    ensures { λ r. ⌜ Gives (installation (now (memory .entry)) (now (bytes .entry)) limit) r (now (memory .exit)) [] ⌝ }
 {
     if memory.len() != layout::MEMORY_SIZE {
         return storeless(1, unselected());

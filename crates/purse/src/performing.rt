@@ -2,16 +2,15 @@
 ghost use mathlib.Core.List.{[], _∷_};
 ghost use mathlib.Core.Path.{_≡_};
 ghost use lib.Dec.{ltb};
-ghost use lib.ListN.{length};
 ghost use Rattle.octets.specs.Buffers.{content};
 ghost use Rattle.octets.specs.Bytes.{paste};
 ghost use Rattle.octets.specs.Choice.{pick};
-ghost use Rattle.stores.specs.Stores.{leaves};
 ghost use Rattle.card.specs.Card.{Card};
 ghost use Rattle.card.specs.Changes.{Change};
 ghost use Rattle.commands_spec.specs.Outcomes.{changesOf};
-ghost use Rattle.purse_spec.specs.Commands.{plans, performed};
-ghost use Rattle.purse.specs.Said.{said};
+ghost use Rattle.purse_spec.specs.Commands.{outcomeRun};
+ghost use Rattle.purse.specs.Called.{Gives};
+ghost use Rattle.purse.specs.Made.{Made};
 use crate::calls::Called;
 use crate::calls::finish;
 use card::Head;
@@ -28,8 +27,8 @@ use stores::left;
 
 // One change of H, and where `again` says so another: VERIFY PIN's.
 fn commit_twice(memory: &mut [u8], first: State, second: State, again: bool, limit: usize) -> usize
-    ensures { λ r. ⌜ (r ≡ length (plans (Change.state first ∷ pick again (Change.state second ∷ []) []) (now (memory .entry))))
-        × (now (memory .exit) ≡ leaves (plans (Change.state first ∷ pick again (Change.state second ∷ []) []) (now (memory .entry))) limit (now (memory .entry))) ⌝ }
+    ensures { λ r. ⌜ Made (Change.state first ∷ pick again (Change.state second ∷ []) [])
+        (now (memory .entry)) limit r (now (memory .exit)) ⌝ }
 {
     let n = commit_state(memory, first, limit);
     if !again {
@@ -48,8 +47,7 @@ fn commit(
     entry: [u8; 24],
     limit: usize,
 ) -> usize
-    ensures { λ r. ⌜ (r ≡ length (plans (changesOf effect before head entry) (now (memory .entry))))
-        × (now (memory .exit) ≡ leaves (plans (changesOf effect before head entry) (now (memory .entry))) limit (now (memory .entry))) ⌝ }
+    ensures { λ r. ⌜ Made (changesOf effect before head entry) (now (memory .entry)) limit r (now (memory .exit)) ⌝ }
 {
     let state = head.state;
     match effect {
@@ -79,9 +77,8 @@ pub fn perform(
     area: &mut [u8],
     limit: usize,
 ) -> Called
-    ensures { λ r. ⌜ ((c : Card) → c .head .state ≡ before → (r ≡ said (performed c outcome (now (memory .entry)) (now (area .entry)) limit))
-        × (now (memory .exit) ≡ performed c outcome (now (memory .entry)) (now (area .entry)) limit .memory)
-        × (now (area .exit) ≡ performed c outcome (now (memory .entry)) (now (area .entry)) limit .response)) ⌝ }
+    ensures { λ r. ⌜ ((c : Card) → c .head .state ≡ before
+        → Gives (outcomeRun c outcome (now (memory .entry)) (now (area .entry)) limit) r (now (memory .exit)) (now (area .exit))) ⌝ }
 {
     let effect = outcome.effect;
     let head = outcome.head;

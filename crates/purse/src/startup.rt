@@ -1,7 +1,7 @@
 // Start-up. It makes no store, so no limit cuts it.
-ghost use mathlib.Core.Path.{_≡_};
+ghost use mathlib.Core.List.{[]};
 ghost use Rattle.purse_spec.specs.Startup.{startup};
-ghost use Rattle.purse.specs.Said.{said};
+ghost use Rattle.purse.specs.Called.{Gives};
 use crate::calls::Called;
 use crate::calls::storeless;
 use card::layout;
@@ -9,8 +9,7 @@ use session::unselected;
 
 // Answers 0, 1 and 2.
 pub fn start_up(memory: &mut [u8], limit: usize) -> Called
-    ensures { λ r. ⌜ (r ≡ said (startup (now (memory .entry)) limit))
-        × (now (memory .exit) ≡ startup (now (memory .entry)) limit .memory) ⌝ }
+    ensures { λ r. ⌜ Gives (startup (now (memory .entry)) limit) r (now (memory .exit)) [] ⌝ }
 {
     if memory.len() != layout::MEMORY_SIZE {
         return storeless(1, unselected());

@@ -1,29 +1,24 @@
 -- Document 01: "Each answer is given only for its reason", in the order 1, 3, 4, 2, 5, 6, and wherever it is due; 7 exactly where no
 -- refusal is due and the limit is below the number of stores, else 0. Assumes nothing.
-use mathlib.Core.Bool.{Bool, true, false, false≢true}
+use mathlib.Core.Bool.{true, false, false≢true}
 use mathlib.Core.List.{List, [], _∷_}
 use mathlib.Core.Logic.{_⊎_, inl, inr}
 use mathlib.Core.Option.{none, Option·some-ne-none}
 use mathlib.Core.Path.{_≡_, refl, sym, ap, _∙_}
 use Prim.Native.Nat.{ℕ, _≤_, _<_}
 use native.Mathlib.Omega.{arith}
-use lib.Dec.{ltb}
 use lib.ListN.{length}
-use Rattle.octets.specs.Choice.{pick}
-use Rattle.octets.proofs.Rules.{pick-holds}
 use Rattle.stores.specs.Stores.{answers}
 use Rattle.stores.proofs.Limits.{never-seven, seven-cut, zero-done, reports-count}
 use Rattle.card.specs.Reading.{readable, readCard}
-use Rattle.card.specs.Changes.{installPlan}
 use Rattle.card.proofs.Seen.{reads}
 use Rattle.card.proofs.Live.{sound}
 use Rattle.card.proofs.Cards.{readable-read}
 use Rattle.purse_spec.specs.Calls.{Run, refusal}
-use Rattle.purse_spec.specs.Installation.{fixedOf, keysOf}
-use Rattle.purse_spec.specs.Commands.{performed}
 use Rattle.purse_spec.specs.History.{Call, install, start, send, State, limited, OfBytes, run}
 use Rattle.purse_spec.specs.Reasons.{Rule, First, NoReason, reasons, limitOf, storesOf, Due, refused, cut, finished}
 use Rattle.purse_spec.proofs.Answers.{sessionFor, areaFor, answers-keep}
+use Rattle.purse_spec.proofs.Performed.{done-or-cut}
 use Rattle.purse_spec.proofs.Runs.{installation-holds, startup-holds, command-holds}
 use Rattle.purse_spec.proofs.Installing.{in-range, only-in-range}
 use Rattle.purse_spec.proofs.Sound.{Typed}
@@ -53,10 +48,6 @@ first-none (r ∷ rs) n (inr a) b = first-none rs n (a .1) (b .1)
 abbrev Decided : List Rule → ℕ → Type 0
 Decided rs n = First rs n ⊎ (NoReason rs × ((n ≡ 0) ⊎ (n ≡ 7)))
 
-either : (b : Bool) → (_≡_ {A = ℕ} (pick b 7 0) 0) ⊎ (_≡_ {A = ℕ} (pick b 7 0) 7)
-either true = inr refl
-either false = inl refl
-
 unread : (m : List ℕ) → readable m ≡ false → readCard m ≡ none
 unfolding readCard
 unread m e = rw e
@@ -65,17 +56,17 @@ card-read : (m : List ℕ) → readable m ≡ true → readCard m ≡ none → �
 card-read m t e = Option·some-ne-none _ (sym (readable-read m t) ∙ e)
 
 decided : (x : Call) (st : State) → Decided (reasons x st) (run x st .answer)
-unfolding run refusal answers performed reasons First NoReason
+unfolding run refusal reasons First NoReason
 decided (install d limit) st =
     installation-holds (st .memory) (λ (r : ℕ → Run). Decided (reasons (install d limit) st) (r limit .answer)) d
     (λ e. inl (inl (e, refl)))
     (λ e t. inl (inr (λ w. w e, inl (λ g. false≢true (sym t ∙ in-range d g), refl))))
-    (λ e t. inr ((λ w. w e, (λ w. w (only-in-range d t), tt)), either (ltb limit (length (installPlan (fixedOf d) (keysOf d))))))
+    (λ e t. inr ((λ w. w e, (λ w. w (only-in-range d t), tt)), done-or-cut _ limit (st .memory) _ _ _))
 decided (start limit) st =
     startup-holds (st .memory) (λ (r : ℕ → Run). Decided (reasons (start limit) st) (r limit .answer))
     (λ e. inl (inl (e, refl)))
     (λ e t. inl (inr (λ w. w e, inl (unread (st .memory) t, refl))))
-    (λ e t. inr ((λ w. w e, (card-read (st .memory) t, tt)), inl refl))
+    (λ e t. inr ((λ w. w e, (card-read (st .memory) t, tt)), done-or-cut _ limit (st .memory) _ _ _))
 decided (send bytes random area limit) st =
     let x = send bytes random area limit in
     command-holds (st .memory) (λ (r : ℕ → Run). Decided (reasons x st) (r limit .answer)) (st .session) bytes random area
@@ -88,9 +79,10 @@ decided (send bytes random area limit) st =
     inl (inr (λ w. w e, inr (λ w. omega arith, inr (λ w. w u, inr (λ w. Option·some-ne-none c (sym v ∙ w), inl (z, refl)))))))
     (λ c t u v z.
     let e = sound (st .memory) c (reads (st .memory) c v) .size in
-    let none-due : NoReason (reasons x st) =
-    (λ w. w e, (λ w. omega arith, (λ w. w u, (λ w. Option·some-ne-none c (sym v ∙ w), (λ w. false≢true (sym z ∙ w), tt))))) in
-    pick-holds (λ (r : Run). Decided (reasons x st) (r .answer)) (ltb limit _) _ _ (λ k. inr (none-due, inr refl)) (λ k. inr (none-due, inl refl)))
+    inr (
+      (λ w. w e, (λ w. omega arith, (λ w. w u, (λ w. Option·some-ne-none c (sym v ∙ w), (λ w. false≢true (sym z ∙ w), tt))))),
+      done-or-cut _ limit (st .memory) _ _ _,
+    ))
 
 -- ---- 7 or 0
 

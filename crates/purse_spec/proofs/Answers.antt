@@ -4,24 +4,15 @@ use mathlib.Core.List.{List, []}
 use mathlib.Core.Path.{_≡_, refl}
 use Prim.Native.Nat.{ℕ, _≤_}
 use native.Mathlib.Omega.{arith}
-use lib.Dec.{ltb}
 use lib.ListN.{length}
-use Rattle.octets.specs.Buffers.{content}
 use Rattle.octets.proofs.Pasting.{length-paste}
-use Rattle.octets.proofs.Rules.{pick-holds}
-use Rattle.stores.specs.Stores.{answers}
+use Rattle.stores.specs.Stores.{Store}
 use Rattle.stores.proofs.Plans.{leaves-length}
-use Rattle.stores.proofs.Limits.{not-seven-done, answers-done}
-use Rattle.card.specs.Card.{Card}
-use Rattle.card.specs.Changes.{installPlan}
 use Rattle.session.specs.declared.Session.{Session}
 use Rattle.session.specs.Session.{unselected}
-use Rattle.commands_spec.specs.declared.outcome.Outcome.{Outcome}
-use Rattle.commands_spec.specs.Respond.{respond}
-use Rattle.purse_spec.specs.Calls.{Run, refusal}
-use Rattle.purse_spec.specs.Installation.{fixedOf, keysOf}
-use Rattle.purse_spec.specs.Commands.{outcomePlan, performed}
+use Rattle.purse_spec.specs.Calls.{Run, refusal, performed}
 use Rattle.purse_spec.specs.History.{Call, install, start, send, State, run, isStart, isInstall}
+use Rattle.purse_spec.proofs.Performed.{by-limit}
 use Rattle.purse_spec.proofs.Runs.{installation-runs, startup-runs, command-runs}
 
 -- ---- what each leaves as it was
@@ -53,51 +44,52 @@ refusal-keeps : (m : List ℕ) (s : Session) (area : List ℕ) → (n : ℕ) →
 unfolding refusal
 refusal-keeps m s area n k l = record { refused = λ y z. refl; cut = λ z. absurd (omega arith); memory = refl; response = refl }
 
-performed-keeps : (c : Card) (o : Outcome) (m : List ℕ) (s : Session) (area : List ℕ) (limit : ℕ) → Keeps m s area (performed c o m area limit)
+performed-keeps : (p : List Store) (limit : ℕ) (m : List ℕ) (s t : Session) (reply area : List ℕ) → Keeps m s area (performed p limit m t reply area)
 unfolding performed
-performed-keeps c o m s area limit =
-    let p = outcomePlan c o m in
-    pick-holds (Keeps m s area) (ltb limit (length p)) _ _
-    (λ t. record { refused = λ y z. absurd (z refl); cut = λ z. (refl, refl, refl); memory = leaves-length p limit m; response = refl })
-    (λ t. record { refused = λ y z. absurd (y refl); cut = λ z. absurd (omega arith); memory = leaves-length p limit m; response = length-paste area _ (content (o .reply)) })
+performed-keeps p limit m s t reply area =
+    by-limit (Keeps m s area) limit _ _ _
+    (λ k. record { refused = λ y z. absurd (z refl); cut = λ z. (refl, refl, refl); memory = leaves-length p limit m; response = refl })
+    (λ k. record { refused = λ y z. absurd (y refl); cut = λ z. absurd (omega arith); memory = leaves-length p limit m; response = length-paste area _ reply })
 
 -- every call
 pub answers-keep : (x : Call) (st : State) → Keeps (st .memory) (sessionFor x st) (areaFor x) (run x st)
 unfolding run sessionFor areaFor
 answers-keep (install d limit) st =
-    let p = installPlan (fixedOf d) (keysOf d) in
     installation-runs (st .memory) (λ (r : ℕ → Run). Keeps (st .memory) unselected [] (r limit)) d (refusal-keeps (st .memory) unselected [])
-    (λ e t.
-    record {
-      refused = λ y z. absurd (y (answers-done p limit (not-seven-done p limit z)));
-      cut = λ z. (refl, refl, refl);
-      memory = leaves-length p limit (st .memory);
-      response = refl;
-    })
+    (λ e t. performed-keeps _ limit (st .memory) _ _ _ _)
 answers-keep (start limit) st =
     startup-runs (st .memory) (λ (r : ℕ → Run). Keeps (st .memory) unselected [] (r limit)) (refusal-keeps (st .memory) unselected [])
-    (λ t. record { refused = λ y z. absurd (y refl); cut = λ z. absurd (omega arith); memory = refl; response = refl })
+    (λ t. performed-keeps _ limit (st .memory) _ _ _ _)
 answers-keep (send bytes random area limit) st =
     command-runs (st .memory) (λ (r : ℕ → Run). Keeps (st .memory) (st .session) area (r limit)) (st .session) bytes random area
-    (refusal-keeps (st .memory) (st .session) area) (λ c t u e. performed-keeps c (respond c (st .session) bytes random) (st .memory) (st .session) area limit)
+    (refusal-keeps (st .memory) (st .session) area) (λ c t u e. performed-keeps _ limit (st .memory) _ _ _ _)
+
+none-selected : (p : List Store) (limit : ℕ) (m : List ℕ) → performed p limit m unselected [] [] .session ≡ unselected
+unfolding performed
+none-selected p limit m = by-limit (λ (r : Run). r .session ≡ unselected) limit _ _ _ (λ k. refl) (λ k. refl)
 
 -- "installation and start-up take none and, on 0, hand back the unselected one"
 pub hands-unselected : (x : Call) (st : State) → (isInstall x || isStart x) ≡ true → run x st .session ≡ unselected
 unfolding run refusal isInstall isStart
 hands-unselected (install d limit) st h =
-    installation-runs (st .memory) (λ (r : ℕ → Run). r limit .session ≡ unselected) d (λ n k l. refl) (λ e t. refl)
-hands-unselected (start limit) st h = startup-runs (st .memory) (λ (r : ℕ → Run). r limit .session ≡ unselected) (λ n k l. refl) (λ t. refl)
+    installation-runs (st .memory) (λ (r : ℕ → Run). r limit .session ≡ unselected) d (λ n k l. refl) (λ e t. none-selected _ limit (st .memory))
+hands-unselected (start limit) st h =
+    startup-runs (st .memory) (λ (r : ℕ → Run). r limit .session ≡ unselected) (λ n k l. refl) (λ t. none-selected _ limit (st .memory))
 hands-unselected (send bytes random area limit) st h = absurd (false≢true h)
 
 -- ---- the list
 
+performed-listed : (p : List Store) (limit : ℕ) (m : List ℕ) (s : Session) (reply area : List ℕ) → performed p limit m s reply area .answer ≤ 7
+unfolding performed
+performed-listed p limit m s reply area = by-limit (λ (r : Run). r .answer ≤ 7) limit _ _ _ (λ k. omega arith) (λ k. omega arith)
+
 -- 0 to 7; 8 is the C host's
 pub listed : (x : Call) (st : State) → run x st .answer ≤ 7
-unfolding run refusal answers performed
+unfolding run refusal
 listed (install d limit) st =
-    installation-runs (st .memory) (λ (r : ℕ → Run). r limit .answer ≤ 7) d (λ n k l. omega arith)
-    (λ e t. pick-holds (λ (n : ℕ). n ≤ 7) (ltb limit (length (installPlan (fixedOf d) (keysOf d)))) 7 0 (λ u. omega arith) (λ u. omega arith))
-listed (start limit) st = startup-runs (st .memory) (λ (r : ℕ → Run). r limit .answer ≤ 7) (λ n k l. omega arith) (λ t. omega arith)
+    installation-runs (st .memory) (λ (r : ℕ → Run). r limit .answer ≤ 7) d (λ n k l. omega arith) (λ e t. performed-listed _ limit (st .memory) _ _ _)
+listed (start limit) st =
+    startup-runs (st .memory) (λ (r : ℕ → Run). r limit .answer ≤ 7) (λ n k l. omega arith) (λ t. performed-listed _ limit (st .memory) _ _ _)
 listed (send bytes random area limit) st =
     command-runs (st .memory) (λ (r : ℕ → Run). r limit .answer ≤ 7) (st .session) bytes random area (λ n k l. omega arith)
-    (λ c t u e. pick-holds (λ (r : Run). r .answer ≤ 7) (ltb limit _) _ _ (λ v. omega arith) (λ v. omega arith))
+    (λ c t u e. performed-listed _ limit (st .memory) _ _ _)

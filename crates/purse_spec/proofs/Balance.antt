@@ -10,20 +10,19 @@ use native.Mathlib.Omega.{arith}
 use lib.ListN.{length}
 use Rattle.octets.specs.Bytes.{AreBytes}
 use Rattle.octets.proofs.Rules.{pick-holds}
-use Rattle.stores.proofs.Limits.{not-seven-done, answers-done}
 use Rattle.card.specs.Card.{Card, freshHead, fresh}
 use Rattle.card.specs.Layout.{memorySize}
 use Rattle.card.specs.Reading.{readCard}
-use Rattle.card.specs.Changes.{installPlan}
 use Rattle.card.proofs.Installation.{fresh-proper}
 use Rattle.session.specs.Session.{unselected}
 use Rattle.session.proofs.Sizes.{unselected-sized}
 use Rattle.commands_spec.specs.CompleteTransaction.{isNoted}
 use Rattle.commands_spec.proofs.Facts.{facts}
-use Rattle.purse_spec.specs.Calls.{Run, refusal}
+use Rattle.purse_spec.specs.Calls.{Run, refusal, performed}
 use Rattle.purse_spec.specs.Installation.{dataOk, fixedOf, keysOf, installation}
 use Rattle.purse_spec.specs.History.{Call, install, start, send, State, OfBytes, AllOfBytes, run, isStart, isInstall, next, after, OnlyStarts, Admissible, IsHistory}
 use Rattle.purse_spec.specs.Ledger.{Ledger, empty, numberOf, grown, fed, startsOf, grewIn, kept}
+use Rattle.purse_spec.proofs.Performed.{by-limit}
 use Rattle.purse_spec.proofs.Runs.{installed, installation-runs}
 use Rattle.purse_spec.proofs.Installing.{installable, installed-reads}
 use Rattle.purse_spec.proofs.Starting.{starts-keep}
@@ -37,13 +36,12 @@ module _ (st : State) (b : Ledger) (d : List ℕ) (limit : ℕ) (f : AreBytes d)
 
   -- a finished one starts the ledger anew
   installed-booked : length (st .memory) ≡ memorySize → dataOk d ≡ true → (installed (st .memory) d limit .answer ≡ 7 → ⊥) → Booked x st b (installed (st .memory) d limit)
-  unfolding fed empty fresh freshHead unselected isNoted
-  installed-booked e t n g q =
-      let p = installPlan (fixedOf d) (keysOf d) in
-      rw (answers-done p limit (not-seven-done p limit n))
-      (record {
+  unfolding performed fed empty fresh freshHead unselected isNoted
+  installed-booked e t =
+      by-limit (λ (r : Run). (r .answer ≡ 7 → ⊥) → Booked x st b r) limit _ _ _ (λ k n. absurd (n refl))
+      (λ k n g q. record {
         card = fresh (fixedOf d) (keysOf d);
-        reads = installed-reads (st .memory) d limit f e t n;
+        reads = installed-reads (st .memory) d limit f e t k;
         proper = fresh-proper (fixedOf d) (keysOf d) (installable d f t);
         sized = unselected-sized;
         sum = refl;

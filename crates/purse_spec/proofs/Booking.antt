@@ -1,13 +1,13 @@
 -- One call and the ledger: where memory reads as a card whose balance is the ledger's sum, and the ledger's note is what the session has
 -- noted, the same holds behind any call but a cut installation. Assumes nothing.
 use mathlib.Core.Bool.{Bool, true, false, _&&_, false≢true}
-use mathlib.Core.List.{List}
+use mathlib.Core.List.{List, []}
 use mathlib.Core.Option.{Option, none, some}
 use mathlib.Core.Path.{_≡_, refl, sym, ap, _∙_, subst}
 use Prim.Native.Nat.{ℕ, _+_, _-_, _≤_, _<_}
 use native.Mathlib.Omega.{arith}
-use borrow.Author.Tests.{eqb-true, ne-eqb, ltb-true, ltb-false, le-ltb}
-use lib.Dec.{ltb, eqb}
+use borrow.Author.Tests.{eqb-true, ne-eqb, le-ltb}
+use lib.Dec.{eqb}
 use lib.ListN.{length}
 use Rattle.octets.specs.Choice.{pick}
 use Rattle.octets.specs.Bytes.{byteAt, paste}
@@ -38,11 +38,12 @@ use Rattle.commands_spec.proofs.Notes.{initialize-notes, others-note-nothing, c
 use Rattle.commands_spec.proofs.Moves.{debitOf, creditOf, only-complete-moves}
 use Rattle.commands_spec.proofs.Sizes.{Sound, reply-short, session-sized}
 use Rattle.commands_spec.proofs.Proper.{respond-proper}
-use Rattle.purse_spec.specs.Calls.{Run, refusal}
+use Rattle.purse_spec.specs.Calls.{Run, refusal, performed}
 use Rattle.purse_spec.specs.Startup.{startup}
-use Rattle.purse_spec.specs.Commands.{outcomePlan, performed, command}
+use Rattle.purse_spec.specs.Commands.{outcomePlan, outcomeRun, command}
 use Rattle.purse_spec.specs.History.{Call, install, start, send, State}
 use Rattle.purse_spec.specs.Ledger.{Note, Ledger, noting, addedTo, statusWord, isInitialize, isComplete, noteOf, numberOf, grown, finished, fed}
+use Rattle.purse_spec.proofs.Performed.{leaves-nothing, by-limit}
 use Rattle.purse_spec.proofs.Runs.{startup-runs, command-on}
 use Rattle.purse_spec.proofs.Names.{ins94, begins-not, begins-named}
 use Rattle.purse_spec.proofs.Performing.{cut-keeps, performed-done, performed-cut}
@@ -174,10 +175,11 @@ module _ (st : State) (b : Ledger) (h : Holds (st .memory) (st .session) b) wher
 
   -- a start-up
   pub startup-booked : (limit : ℕ) → Booked (start limit) st b (startup (st .memory) limit)
-  unfolding fed unselected isNoted
+  unfolding performed fed unselected isNoted
   startup-booked limit =
       startup-runs (st .memory) (λ (r : ℕ → Run). Booked (start limit) st b (r limit)) (λ n k l. refusal-booked (start limit) n k l _ _)
-      (λ t g q. quiet (st .memory) (st .session) b none h unselected unselected-sized refl)
+      (λ t. by-limit (Booked (start limit) st b) limit _ _ _ (λ k. absurd (omega arith))
+      (λ k g q. rw (leaves-nothing limit (st .memory)) (quiet (st .memory) (st .session) b none h unselected unselected-sized refl)))
 
   module _ (bytes random area : List ℕ) (limit : ℕ) (i : length random ≡ 8 → Sound (h .card) (st .session) bytes random) where
     abbrev x : Call
@@ -217,11 +219,10 @@ module _ (st : State) (b : Ledger) (h : Holds (st .memory) (st .session) b) wher
         subst (λ (w : ℕ). Holds left (o .session) (finished bytes w b)) (sym e)
         (finished-booked (st .memory) (st .session) b h bytes random j left (performed-done (st .memory) (h .card) (st .session) bytes random (h .reads) j limit l))
 
-    performed-booked : 32 ≤ length area → Sound (h .card) (st .session) bytes random → Booked x st b (performed (h .card) o (st .memory) area limit)
+    performed-booked : 32 ≤ length area → Sound (h .card) (st .session) bytes random → Booked x st b (outcomeRun (h .card) o (st .memory) area limit)
     unfolding performed fed statusWord
     performed-booked a j =
-        pick-holds (Booked x st b) (ltb limit (length (outcomePlan (h .card) o (st .memory)))) _ _
-        (λ t g q. cut-booked j (ltb-true _ _ t) g q) (λ t g q. done-booked j a (ltb-false _ _ t))
+        by-limit (Booked x st b) limit _ _ _ (λ t g q. cut-booked j t g q) (λ t g q. done-booked j a t)
 
     -- a command
     pub command-booked : Booked x st b (command (st .memory) (st .session) bytes random area limit)

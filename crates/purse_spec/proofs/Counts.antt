@@ -5,41 +5,30 @@ use mathlib.Core.Logic.{_≢_}
 use mathlib.Core.Path.{_≡_, refl, sym, ap, _∙_}
 use Prim.Native.Nat.{ℕ, suc, _≤_, _<_}
 use native.Mathlib.Omega.{arith}
-use borrow.Author.Tests.{ltb-true, ltb-false}
-use lib.Dec.{ltb}
 use lib.ListN.{length, getD}
 use Rattle.octets.specs.Bytes.{AreBytes}
-use Rattle.octets.proofs.Rules.{pick-holds}
-use Rattle.stores.specs.Stores.{Store, leaves, answers, reports}
+use Rattle.stores.specs.Stores.{Store, answers}
 use Rattle.stores.specs.Limits.{leastLimit}
 use Rattle.stores.proofs.Plans.{leaves-length}
-use Rattle.stores.proofs.Limits.{limit-zero, limit-one-byte, limit-enough, answers-done, answers-cut, seven-cut, zero-done, not-seven-done, reports-limit, reports-count}
+use Rattle.stores.proofs.Limits.{limit-zero, limit-one-byte, limit-enough, answers-done, seven-cut, zero-done, not-seven-done, reports-limit, reports-count}
 use Rattle.stores.proofs.Least.{least-plan, least-same}
-use Rattle.card.specs.Card.{Card}
 use Rattle.card.specs.Changes.{installPlan}
 use Rattle.card.proofs.Bounds.{install-length}
 use Rattle.session.specs.declared.Session.{Session}
 use Rattle.session.proofs.Sizes.{Sized}
-use Rattle.commands_spec.specs.declared.outcome.Outcome.{Outcome}
 use Rattle.commands_spec.specs.Respond.{respond}
 use Rattle.purse_spec.specs.Calls.{Run, refusal}
 use Rattle.purse_spec.specs.Installation.{fixedOf, keysOf, installation}
 use Rattle.purse_spec.specs.Startup.{startup}
-use Rattle.purse_spec.specs.Commands.{outcomePlan, performed, command}
+use Rattle.purse_spec.specs.Commands.{outcomePlan, command}
 use Rattle.purse_spec.specs.History.{Call, install, start, send, State, limited, OfBytes, run}
-use Rattle.purse_spec.proofs.Rows.{leaves-nothing}
+use Rattle.purse_spec.proofs.Performed.{Follows, performed-follows}
 use Rattle.purse_spec.proofs.Runs.{Refused, installation-runs, startup-runs, command-runs}
 use Rattle.purse_spec.proofs.Installing.{installable}
 use Rattle.purse_spec.proofs.Performing.{performed-few}
 use Rattle.purse_spec.proofs.Sound.{Typed, sound-of}
 
 -- ---- a call is one refusal at every limit, or the stores of one plan
-
--- the run of a plan
-pub record Follows (p : List Store) (L : ℕ) (m : List ℕ) (r : Run) : Type 0 where
-  pub answer : r .answer ≡ answers p L
-  pub count : r .count ≡ reports p L
-  pub memory : r .memory ≡ leaves p L m
 
 -- a call f on memory m
 pub data Shape (m : List ℕ) (f : ℕ → Run) : Type 0 where
@@ -55,22 +44,11 @@ installation-shape m d f =
     (λ e t.
     let i = installable d f t in
     let n = install-length (fixedOf d) (keysOf d) (i .aid) (i .keys) in
-    stores (installPlan (fixedOf d) (keysOf d)) (omega arith) (λ L. record { answer = refl; count = refl; memory = refl }))
+    stores (installPlan (fixedOf d) (keysOf d)) (omega arith) (λ L. performed-follows _ L m _ _ _))
 
 startup-shape : (m : List ℕ) → Shape m (λ L. startup m L)
 startup-shape m =
-    startup-runs m (Shape m) (refused-shape m _ _)
-    (λ t. stores [] (omega arith)
-    (λ L. let z = answers-done [] L (omega arith) in record { answer = sym z; count = sym (reports-count [] L z); memory = sym (leaves-nothing L m) }))
-
--- the run of a command past its refusals is that of its plan
-pub performed-follows : (c : Card) (o : Outcome) (m area : List ℕ) (L : ℕ) → Follows (outcomePlan c o m) L m (performed c o m area L)
-unfolding performed
-performed-follows c o m area L =
-    let p = outcomePlan c o m in
-    pick-holds (Follows p L m) (ltb L (length p)) _ _
-    (λ t. let z = answers-cut p L (ltb-true _ _ t) in record { answer = sym z; count = sym (reports-limit p L z); memory = refl })
-    (λ t. let z = answers-done p L (ltb-false _ _ t) in record { answer = sym z; count = sym (reports-count p L z); memory = refl })
+    startup-runs m (Shape m) (refused-shape m _ _) (λ t. stores [] (omega arith) (λ L. performed-follows [] L m _ _ _))
 
 command-shape : (m : List ℕ) (s : Session) (bytes random area : List ℕ) → AreBytes m → Sized s → AreBytes bytes → AreBytes random
     → Shape m (λ L. command m s bytes random area L)
@@ -79,7 +57,7 @@ command-shape m s bytes random area f z a b =
     (λ c t u e.
     let i = sound-of m c s bytes random f e z a b u in
     let o = respond c s bytes random in
-    stores (outcomePlan c o m) (performed-few m c s bytes random e i) (performed-follows c o m area))
+    stores (outcomePlan c o m) (performed-few m c s bytes random e i) (λ L. performed-follows _ L m _ _ _))
 
 -- every call
 pub shape : (x : Call) (st : State) → Typed st → OfBytes x → Shape (st .memory) (λ L. run (limited L x) st)

@@ -7,19 +7,17 @@ use mathlib.Core.Path.{_≡_, refl, ap, _∙_}
 use Prim.Native.Nat.{ℕ, _≤_}
 use native.Mathlib.Decide.{ℕ-discrete}
 use native.Mathlib.Omega.{arith}
-use borrow.Author.Tests.{ltb-true, ltb-false}
-use lib.Dec.{ltb}
 use lib.ListN.{length}
 use Rattle.octets.specs.Bytes.{byteAt}
-use Rattle.octets.proofs.Rules.{pick-holds}
 use Rattle.card.specs.Card.{Card}
 use Rattle.card.specs.Reading.{readCard}
 use Rattle.session.specs.declared.Session.{Session}
 use Rattle.commands_spec.specs.Respond.{respond, cardAfter}
 use Rattle.commands_spec.proofs.Sizes.{Sound}
-use Rattle.purse_spec.specs.Calls.{Run, refusal}
-use Rattle.purse_spec.specs.Commands.{outcomePlan, performed, command}
+use Rattle.purse_spec.specs.Calls.{Run, refusal, performed}
+use Rattle.purse_spec.specs.Commands.{outcomeRun, command}
 use Rattle.purse_spec.specs.History.{Call, send, State, OfBytes, run, next, after, OnlyStarts}
+use Rattle.purse_spec.proofs.Performed.{by-limit}
 use Rattle.purse_spec.proofs.Runs.{command-on}
 use Rattle.purse_spec.proofs.Performing.{Fewer, CutCard, before, fewer, performed-done, performed-cut}
 use Rattle.purse_spec.proofs.Sound.{Typed, sound-of}
@@ -55,16 +53,15 @@ module _ (m : List ℕ) (c : Card) (s : Session) (bytes random area : List ℕ) 
   unfolding refusal
   refusal-left n g h = (c, e, record { finished = λ q. absurd (omega arith); cut = λ q. absurd (omega arith); refused = λ q r. refl })
 
-  performed-left : Sound c s bytes random → LeftIn c s bytes random (performed c (respond c s bytes random) m area limit)
+  performed-left : Sound c s bytes random → LeftIn c s bytes random (outcomeRun c (respond c s bytes random) m area limit)
   unfolding performed
   performed-left i =
-      let p = outcomePlan c (respond c s bytes random) m in
-      pick-holds (LeftIn c s bytes random) (ltb limit (length p)) _ _
+      by-limit (LeftIn c s bytes random) limit _ _ _
       (λ v.
-      let r = performed-cut m c s bytes random e i limit (ltb-true _ _ v) in
+      let r = performed-cut m c s bytes random e i limit v in
       (r .0, r .1, record { finished = λ q. absurd (omega arith); cut = λ q. r .2; refused = λ z k. absurd (k refl) }))
       (λ v.
-      let r = performed-done m c s bytes random e i limit (ltb-false _ _ v) in
+      let r = performed-done m c s bytes random e i limit v in
       (cardAfter c s bytes random, r, record { finished = λ q. refl; cut = λ q. absurd (omega arith); refused = λ z k. absurd (z refl) }))
 
   -- a command alone, on a card in hand

@@ -32,8 +32,8 @@ use Rattle.commands_spec.proofs.Ways.{changes}
 use Rattle.commands_spec.proofs.PinTry.{pin-pair}
 use Rattle.commands_spec.proofs.Sizes.{Sound}
 use Rattle.commands_spec.proofs.Proper.{each-proper}
-use Rattle.purse_spec.specs.Calls.{Run, awaits}
-use Rattle.purse_spec.specs.Commands.{leastArea, plans, outcomePlan, performed, onCard, command}
+use Rattle.purse_spec.specs.Calls.{Run, awaits, performed}
+use Rattle.purse_spec.specs.Commands.{leastArea, plans, outcomePlan, outcomeRun, onCard, command}
 use Rattle.purse_spec.specs.History.{send, State, run}
 use Rattle.purse_spec.specs.Ledger.{statusWord}
 use Rattle.purse_spec.proofs.Rows.{EachProper, first-proper, others-proper, plans-cut}
@@ -41,7 +41,7 @@ use Rattle.purse_spec.proofs.Names.{verify-named}
 use Rattle.purse_spec.proofs.Performing.{Fewer, performed-done}
 use Rattle.purse_spec.proofs.Sound.{Typed, sound-of}
 use Rattle.purse_spec.proofs.Responses.{performed-responds}
-use Rattle.purse_spec.proofs.Counts.{Follows, performed-follows}
+use Rattle.purse_spec.proofs.Performed.{Follows, performed-follows}
 
 -- behind a run on the card c the try is spent: memory reads as c with one try fewer, or the run is finished and its PIN was right
 pub data Spent (c : Card) (r : Run) : Type 0 where
@@ -89,7 +89,7 @@ module _ (m : List ℕ) (c : Card) (e : readCard m ≡ some c) (k : 0 < c .head 
 
   -- cut in the first change, whatever comes behind
   cut-first : (o : Outcome) (xs : List Change) → changes c o ≡ first c ∷ xs → limit < p
-      → performed c o m area limit ≡ record { answer = 7; count = limit; session = unselected; memory = leaves (plan (first c) m) limit m; length = 0; response = area }
+      → outcomeRun c o m area limit ≡ record { answer = 7; count = limit; session = unselected; memory = leaves (plan (first c) m) limit m; length = 0; response = area }
   unfolding performed
   cut-first o xs h l =
       let q = planned o xs h in
@@ -127,7 +127,7 @@ module _ (m : List ℕ) (c : Card) (e : readCard m ≡ some c) (k : 0 < c .head 
 module _ (m : List ℕ) (c : Card) (s : Session) (a b random area : List ℕ) (limit : ℕ) (e : readCard m ≡ some c)
     (i : Sound c s a random) (j : Sound c s b random) (room : leastArea ≤ length area) where
   abbrev r : List ℕ → Run
-  r bytes = performed c (respond c s bytes random) m area limit
+  r bytes = outcomeRun c (respond c s bytes random) m area limit
 
   -- the changes of a command whose PIN is judged
   judged-is : (bytes : List ℕ) (right : Bool) → respond c s bytes random ≡ judged right (c .head) s → changes c (respond c s bytes random) ≡ first c ∷ rest c right
@@ -138,7 +138,7 @@ module _ (m : List ℕ) (c : Card) (s : Session) (a b random area : List ℕ) (l
     O = respond c s bytes random
 
     abbrev f : Follows (outcomePlan c O m) limit m (r bytes)
-    f = performed-follows c O m area limit
+    f = performed-follows _ limit m _ _ area
 
     -- a finished run: a wrong PIN has cost a try, a right one says 9000
     finished-spent : (right : Bool) → O ≡ judged right (c .head) s → length (outcomePlan c O m) ≤ limit → Spent c (r bytes)
@@ -164,7 +164,7 @@ module _ (m : List ℕ) (c : Card) (s : Session) (a b random area : List ℕ) (l
         ]
 
   guessed : Tried c s (respond c s a random) (respond c s b random) → Guess m (r a) (r b)
-  guessed (alike q) = same (ap (λ (o : Outcome). performed c o m area limit) q)
+  guessed (alike q) = same (ap (λ (o : Outcome). outcomeRun c o m area limit) q)
   guessed (judges x y k q u) =
       elim (decLe (length (plan (first c) m)) limit) [
         | yes l ↦ spent c e (judged-spent a i k x q l) (judged-spent b j k y u l)

@@ -1,7 +1,7 @@
 -- Installation on any memory: which data are accepted, "a finished one leaves the fresh card of its data", "A cut installation leaves
 -- memory reading as before, as no card, or as the fresh card" (here never as the last). Assumes nothing.
 use mathlib.Core.Bool.{true, false≢true}
-use mathlib.Core.List.{List, _∷_, _++_}
+use mathlib.Core.List.{List, [], _∷_, _++_}
 use mathlib.Core.Logic.{_⊎_}
 use mathlib.Core.Option.{none, some}
 use mathlib.Core.Path.{_≡_, refl, sym, ap, _∙_}
@@ -17,8 +17,8 @@ use Rattle.octets.proofs.Conditions.{all-true, and-both}
 use Rattle.octets.proofs.Equality.{bytes-zero}
 use Rattle.octets.proofs.Parts.{byte-past, length-part, length-field, field-at}
 use Rattle.octets.proofs.Ranges.{part-bytes}
-use Rattle.stores.specs.Stores.{Store, leaves, answers}
-use Rattle.stores.proofs.Limits.{answers-done, seven-cut, not-seven-done, limit-enough}
+use Rattle.stores.specs.Stores.{Store, leaves}
+use Rattle.stores.proofs.Limits.{answers-done, limit-enough}
 use Rattle.card.specs.Card.{fresh}
 use Rattle.card.specs.Proper.{fixedTests}
 use Rattle.card.specs.Layout.{memorySize}
@@ -26,10 +26,12 @@ use Rattle.card.specs.Reading.{readCard}
 use Rattle.card.specs.Changes.{installPlan, installCount}
 use Rattle.card.proofs.Bounds.{install-length}
 use Rattle.card.proofs.Installation.{Installable, install-cut, install-done}
+use Rattle.session.specs.Session.{unselected}
 use Rattle.commands_spec.proofs.Arrays.{field-bytes-of}
-use Rattle.purse_spec.specs.Calls.{Run, refusal}
+use Rattle.purse_spec.specs.Calls.{Run, refusal, performed}
 use Rattle.purse_spec.specs.Installation.{dataOk, fixedOf, keysOf, installation}
 use Rattle.purse_spec.specs.Reasons.{InRange}
+use Rattle.purse_spec.proofs.Performed.{by-limit, performed-follows}
 use Rattle.purse_spec.proofs.Runs.{installation-holds, installation-runs}
 
 -- ---- the data
@@ -198,8 +200,8 @@ module _ (m d : List ℕ) (limit : ℕ) where
   p = installPlan (fixedOf d) (keysOf d)
 
   -- past its refusals and not cut, it leaves the fresh card
-  pub installed-reads : AreBytes d → length m ≡ memorySize → dataOk d ≡ true → (answers p limit ≡ 7 → ⊥) → readCard (leaves p limit m) ≡ some (fresh (fixedOf d) (keysOf d))
-  installed-reads f e t n = ap readCard (limit-enough p limit m (not-seven-done p limit n)) ∙ install-done (fixedOf d) (keysOf d) (installable d f t) m e
+  pub installed-reads : AreBytes d → length m ≡ memorySize → dataOk d ≡ true → length p ≤ limit → readCard (leaves p limit m) ≡ some (fresh (fixedOf d) (keysOf d))
+  installed-reads f e t n = ap readCard (limit-enough p limit m n) ∙ install-done (fixedOf d) (keysOf d) (installable d f t) m e
 
   -- what isn't refused finishes from limit 231 on, whatever memory held
   pub installation-finishes : AreBytes d → length m ≡ memorySize → dataOk d ≡ true → installCount ≤ limit → installation m d limit .answer ≡ 0
@@ -208,19 +210,23 @@ module _ (m d : List ℕ) (limit : ℕ) where
       (λ e u.
       let i = installable d f t in
       let n = install-length (fixedOf d) (keysOf d) (i .aid) (i .keys) in
-      answers-done p limit (omega arith))
+      performed-follows p limit m unselected [] [] .answer ∙ answers-done p limit (omega arith))
 
   -- "a finished one leaves the fresh card of its data"
   pub installation-done : AreBytes d → installation m d limit .answer ≡ 0 → readCard (installation m d limit .memory) ≡ some (fresh (fixedOf d) (keysOf d))
-  unfolding refusal
+  unfolding refusal performed
   installation-done f =
       installation-runs m (λ (r : ℕ → Run). r limit .answer ≡ 0 → readCard (r limit .memory) ≡ some (fresh (fixedOf d) (keysOf d))) d
-      (λ n k l z. absurd (omega arith)) (λ e t z. installed-reads f e t (λ q. omega arith))
+      (λ n k l z. absurd (omega arith))
+      (λ e t. by-limit (λ (r : Run). r .answer ≡ 0 → readCard (r .memory) ≡ some (fresh (fixedOf d) (keysOf d))) limit _ _ _
+      (λ k z. absurd (omega arith)) (λ k z. installed-reads f e t k))
 
   -- a cut one reads as before or as no card
   pub installation-cut : installation m d limit .answer ≡ 7
       → (readCard (installation m d limit .memory) ≡ readCard m) ⊎ (readCard (installation m d limit .memory) ≡ none)
-  unfolding refusal
+  unfolding refusal performed
   installation-cut =
       installation-runs m (λ (r : ℕ → Run). r limit .answer ≡ 7 → (readCard (r limit .memory) ≡ readCard m) ⊎ (readCard (r limit .memory) ≡ none)) d
-      (λ n k l z. absurd (omega arith)) (λ e t z. install-cut (fixedOf d) (keysOf d) m e limit (seven-cut p limit z))
+      (λ n k l z. absurd (omega arith))
+      (λ e t. by-limit (λ (r : Run). r .answer ≡ 7 → (readCard (r .memory) ≡ readCard m) ⊎ (readCard (r .memory) ≡ none)) limit _ _ _
+      (λ k z. install-cut (fixedOf d) (keysOf d) m e limit k) (λ k z. absurd (omega arith)))

@@ -1,3 +1,4 @@
+pub mod Performed
 pub mod Runs
 pub mod Answers
 pub mod Installing

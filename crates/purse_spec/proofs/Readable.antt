@@ -9,9 +9,10 @@ use Rattle.card.specs.Reading.{readable, readCard}
 use Rattle.card.proofs.Cards.{readable-read, read-readable}
 use Rattle.session.specs.declared.Session.{Session}
 use Rattle.session.specs.Session.{unselected}
-use Rattle.purse_spec.specs.Calls.{Run, refusal}
+use Rattle.purse_spec.specs.Calls.{Run, refusal, performed}
 use Rattle.purse_spec.specs.Installation.{installation}
 use Rattle.purse_spec.specs.History.{Call, install, start, send, State, OfBytes, run, isInstall}
+use Rattle.purse_spec.proofs.Performed.{by-limit}
 use Rattle.purse_spec.proofs.Runs.{installation-runs}
 use Rattle.purse_spec.proofs.Installing.{installed-reads}
 use Rattle.purse_spec.proofs.Sound.{Typed, sound-of}
@@ -25,9 +26,12 @@ refusal-readable n s m area t = t
 -- an installation that isn't cut
 installation-readable : (m d : List ℕ) (limit : ℕ) → AreBytes d → readable m ≡ true → (installation m d limit .answer ≡ 7 → ⊥)
     → readable (installation m d limit .memory) ≡ true
+unfolding performed
 installation-readable m d limit f q =
     installation-runs m (λ (r : ℕ → Run). (r limit .answer ≡ 7 → ⊥) → readable (r limit .memory) ≡ true) d
-    (λ k g h n. refusal-readable k unselected m [] q) (λ e t n. read-readable _ _ (installed-reads m d limit f e t n))
+    (λ k g h n. refusal-readable k unselected m [] q)
+    (λ e t. by-limit (λ (r : Run). (r .answer ≡ 7 → ⊥) → readable (r .memory) ≡ true) limit _ _ _ (λ l n. absurd (n refl))
+    (λ l n. read-readable _ _ (installed-reads m d limit f e t l)))
 
 -- "A finished start-up keeps the reading", as every start-up does
 pub startup-keeps-reading : (limit : ℕ) (st : State) → readCard (run (start limit) st .memory) ≡ readCard (st .memory)

@@ -16,10 +16,10 @@ use Rattle.commands_spec.specs.Respond.{named, respond}
 use Rattle.commands_spec.proofs.Ways.{changes}
 use Rattle.commands_spec.proofs.Refusals.{refusal-changes-nothing}
 use Rattle.commands_spec.proofs.Readers.{isReader, readers-change-nothing}
-use Rattle.purse_spec.specs.Calls.{Run, refusal}
-use Rattle.purse_spec.specs.Commands.{plans, outcomePlan, performed}
+use Rattle.purse_spec.specs.Calls.{Run, refusal, performed}
+use Rattle.purse_spec.specs.Commands.{plans, outcomePlan, outcomeRun}
 use Rattle.purse_spec.specs.History.{send, State, run}
-use Rattle.purse_spec.proofs.Rows.{leaves-nothing}
+use Rattle.purse_spec.proofs.Performed.{leaves-nothing}
 use Rattle.purse_spec.proofs.Runs.{command-on}
 
 -- no store, and every byte of memory as it was
@@ -31,7 +31,7 @@ module _ (st : State) (c : Card) (bytes random area : List ℕ) (limit : ℕ) (e
   abbrev O : Outcome
   O = respond c (st .session) bytes random
 
-  performed-none : changes c O ≡ [] → NoStore (st .memory) (performed c O (st .memory) area limit)
+  performed-none : changes c O ≡ [] → NoStore (st .memory) (outcomeRun c O (st .memory) area limit)
   unfolding performed outcomePlan plans
   performed-none h = rw (h, le-ltb limit 0 (omega arith)) (record { count = refl; memory = leaves-nothing limit (st .memory) })
 

@@ -5,7 +5,6 @@ use mathlib.Core.Option.{some}
 use mathlib.Core.Path.{_≡_, refl, sym, ap, _∙_}
 use Prim.Native.Nat.{ℕ, _-_, _≤_}
 use native.Mathlib.Omega.{arith}
-use lib.Dec.{ltb}
 use lib.ListN.{length, take, drop, take-append-drop}
 use lib.Seq.{length-take-le}
 use Rattle.octets.specs.Bytes.{paste}
@@ -13,7 +12,6 @@ use Rattle.octets.specs.Words.{word, wordAt}
 use Rattle.octets.specs.Buffers.{content}
 use Rattle.octets.proofs.Pasting.{paste-front}
 use Rattle.octets.proofs.Numbers.{word-between}
-use Rattle.octets.proofs.Rules.{pick-holds}
 use Rattle.card.specs.Card.{Card}
 use Rattle.card.specs.Reading.{readCard}
 use Rattle.session.specs.declared.Session.{Session}
@@ -21,10 +19,11 @@ use Rattle.commands_spec.specs.declared.outcome.Outcome.{Outcome}
 use Rattle.commands_spec.specs.Respond.{respond}
 use Rattle.commands_spec.proofs.Words.{status-listed}
 use Rattle.commands_spec.proofs.Sizes.{Sound, reply-short}
-use Rattle.purse_spec.specs.Calls.{Run, refusal}
-use Rattle.purse_spec.specs.Commands.{leastArea, outcomePlan, performed}
+use Rattle.purse_spec.specs.Calls.{Run, refusal, performed}
+use Rattle.purse_spec.specs.Commands.{leastArea, outcomePlan, outcomeRun}
 use Rattle.purse_spec.specs.History.{send, State, OfBytes, run}
 use Rattle.purse_spec.specs.Ledger.{statusWord}
+use Rattle.purse_spec.proofs.Performed.{by-limit}
 use Rattle.purse_spec.proofs.Runs.{command-on}
 use Rattle.purse_spec.proofs.Sound.{Typed, sound-of}
 
@@ -51,13 +50,13 @@ pub record Responds (o : Outcome) (area : List ℕ) (r : Run) : Type 0 where
 
 -- past its refusals
 pub performed-responds : (m : List ℕ) (c : Card) (s : Session) (bytes random area : List ℕ) (limit : ℕ) → leastArea ≤ length area → Sound c s bytes random
-    → performed c (respond c s bytes random) m area limit .answer ≡ 0 → Responds (respond c s bytes random) area (performed c (respond c s bytes random) m area limit)
+    → outcomeRun c (respond c s bytes random) m area limit .answer ≡ 0 → Responds (respond c s bytes random) area (outcomeRun c (respond c s bytes random) m area limit)
 unfolding performed statusWord
 performed-responds m c s bytes random area limit a i =
     let o = respond c s bytes random in
     let y = reply-short c s bytes random i in
     let n : length (content (o .reply)) ≤ 32 = y .1 in
-    pick-holds (λ (r : Run). r .answer ≡ 0 → Responds o area r) (ltb limit (length (outcomePlan c o m))) _ _
+    by-limit (λ (r : Run). r .answer ≡ 0 → Responds o area r) limit _ _ _
     (λ t z. absurd (omega arith))
     (λ t z. record {
       response = paste-front area (content (o .reply)) (omega arith);

@@ -8,9 +8,8 @@ use native.Mathlib.Decide.{decLe}
 use native.Mathlib.Nat.{lt-of-not-le}
 use native.Mathlib.Omega.{arith}
 use lib.ListN.{length, take, length-append}
-use lib.Seq.{take-nil}
 use Rattle.octets.specs.Bytes.{AreBytes}
-use Rattle.stores.specs.Stores.{Store, applied, leaves}
+use Rattle.stores.specs.Stores.{applied, leaves}
 use Rattle.stores.proofs.Plans.{applied-append}
 use Rattle.stores.proofs.Limits.{limit-enough}
 use Rattle.stores.proofs.Sequence.{leaves-first, leaves-second}
@@ -23,11 +22,7 @@ use Rattle.card.proofs.Done.{proper-fills, change-done}
 use Rattle.card.proofs.Bounds.{plan-length, change-bytes}
 use Rattle.commands_spec.specs.Outcomes.{after}
 use Rattle.purse_spec.specs.Commands.{plans}
-
--- a plan of no stores
-pub leaves-nothing : (L : ℕ) (m : List ℕ) → leaves [] L m ≡ m
-unfolding leaves applied
-leaves-nothing L m = rw (take-nil {A = Store} L)
+use Rattle.purse_spec.proofs.Performed.{leaves-nothing}
 
 -- the card after any number of the changes is proper
 abbrev pub EachProper : Card → List Change → Type 0

@@ -10,7 +10,6 @@ use borrow.Author.Tests.{eqb-true, eqb-false, ltb-true, ltb-false, not-true, not
 use lib.Dec.{ltb, eqb}
 use lib.ListN.{length}
 use Rattle.octets.specs.Choice.{pick}
-use Rattle.stores.specs.Stores.{leaves, answers, reports}
 use Rattle.card.specs.Card.{Card}
 use Rattle.card.specs.Layout.{memorySize}
 use Rattle.card.specs.Reading.{readable, readCard}
@@ -18,20 +17,18 @@ use Rattle.card.specs.Changes.{installPlan}
 use Rattle.session.specs.declared.Session.{Session}
 use Rattle.session.specs.Session.{unselected}
 use Rattle.commands_spec.specs.Respond.{respond}
-use Rattle.purse_spec.specs.Calls.{Run, awaits, refusal}
+use Rattle.purse_spec.specs.Calls.{Run, awaits, refusal, performed}
 use Rattle.purse_spec.specs.Installation.{dataOk, fixedOf, keysOf, installation}
 use Rattle.purse_spec.specs.Startup.{startup}
-use Rattle.purse_spec.specs.Commands.{leastArea, performed, onCard, command}
+use Rattle.purse_spec.specs.Commands.{leastArea, outcomeRun, onCard, command}
 
 -- an installation past its refusals
 abbrev pub installed : List ℕ → List ℕ → ℕ → Run
-installed m d limit =
-    let p = installPlan (fixedOf d) (keysOf d) in
-    record { answer = answers p limit; count = reports p limit; session = unselected; memory = leaves p limit m; length = 0; response = [] }
+installed m d limit = performed (installPlan (fixedOf d) (keysOf d)) limit m unselected [] []
 
 -- a start-up past its refusals
-abbrev pub started : List ℕ → Run
-started m = record { answer = 0; count = 0; session = unselected; memory = m; length = 0; response = [] }
+abbrev pub started : List ℕ → ℕ → Run
+started m limit = performed [] limit m unselected [] []
 
 -- a choice that doesn't depend on the limit
 pick-runs : (P : (ℕ → Run) → Type 0) (b : Bool) (f g : ℕ → Run) → (b ≡ true → P f) → (b ≡ false → P g) → P (λ L. pick b (f L) (g L))
@@ -58,7 +55,7 @@ module _ (m : List ℕ) (P : (ℕ → Run) → Type 0) where
   -- start-up: 1, 2
   pub startup-holds : ((length m ≡ memorySize → ⊥) → P (λ L. refusal 1 unselected m []))
       → (length m ≡ memorySize → readable m ≡ false → P (λ L. refusal 2 unselected m []))
-      → (length m ≡ memorySize → readable m ≡ true → P (λ L. started m))
+      → (length m ≡ memorySize → readable m ≡ true → P (λ L. started m L))
       → P (λ L. startup m L)
   unfolding startup
   startup-holds one two rest =
@@ -72,7 +69,7 @@ module _ (m : List ℕ) (P : (ℕ → Run) → Type 0) where
       → (length m ≡ memorySize → leastArea ≤ length area → length random ≡ 8 → readCard m ≡ none → P (λ L. refusal 2 s m area))
       → ((c : Card) → leastArea ≤ length area → length random ≡ 8 → readCard m ≡ some c → awaits m ≡ true → P (λ L. refusal 5 s m area))
       → ((c : Card) → leastArea ≤ length area → length random ≡ 8 → readCard m ≡ some c → awaits m ≡ false
-      → P (λ L. performed c (respond c s bytes random) m area L))
+      → P (λ L. outcomeRun c (respond c s bytes random) m area L))
       → P (λ L. command m s bytes random area L)
   unfolding command onCard
   command-holds s bytes random area one three four two five rest =
@@ -96,12 +93,12 @@ module _ (m : List ℕ) (P : (ℕ → Run) → Type 0) where
       → P (λ L. installation m d L)
   installation-runs d out rest = installation-holds m P d (λ e. out 1 (omega arith) (omega arith)) (λ e t. out 6 (omega arith) (omega arith)) rest
 
-  pub startup-runs : Refused P unselected m [] → (readable m ≡ true → P (λ L. started m)) → P (λ L. startup m L)
+  pub startup-runs : Refused P unselected m [] → (readable m ≡ true → P (λ L. started m L)) → P (λ L. startup m L)
   startup-runs out rest = startup-holds m P (λ e. out 1 (omega arith) (omega arith)) (λ e t. out 2 (omega arith) (omega arith)) (λ e t. rest t)
 
   module _ (s : Session) (bytes random area : List ℕ) where
     pub command-runs : Refused P s m area
-        → ((c : Card) → leastArea ≤ length area → length random ≡ 8 → readCard m ≡ some c → P (λ L. performed c (respond c s bytes random) m area L))
+        → ((c : Card) → leastArea ≤ length area → length random ≡ 8 → readCard m ≡ some c → P (λ L. outcomeRun c (respond c s bytes random) m area L))
         → P (λ L. command m s bytes random area L)
     command-runs out rest =
         command-holds m P s bytes random area (λ e. out 1 (omega arith) (omega arith)) (λ e t. out 3 (omega arith) (omega arith))
@@ -110,7 +107,7 @@ module _ (m : List ℕ) (P : (ℕ → Run) → Type 0) where
 
     -- on a card in hand
     pub command-on : (c : Card) → readCard m ≡ some c → Refused P s m area
-        → (leastArea ≤ length area → length random ≡ 8 → P (λ L. performed c (respond c s bytes random) m area L))
+        → (leastArea ≤ length area → length random ≡ 8 → P (λ L. outcomeRun c (respond c s bytes random) m area L))
         → P (λ L. command m s bytes random area L)
     command-on c e out rest =
-        command-runs out (λ d t u q. let k : c ≡ d = cc in subst (λ (x : Card). P (λ L. performed x (respond x s bytes random) m area L)) k (rest t u))
+        command-runs out (λ d t u q. let k : c ≡ d = cc in subst (λ (x : Card). P (λ L. outcomeRun x (respond x s bytes random) m area L)) k (rest t u))

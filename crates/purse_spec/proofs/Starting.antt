@@ -3,21 +3,26 @@ use mathlib.Core.Bool.{true, false≢true}
 use mathlib.Core.List.{List, [], _∷_}
 use mathlib.Core.Path.{_≡_, refl, sym, _∙_}
 use Prim.Native.Nat.{ℕ}
+use native.Mathlib.Omega.{arith}
 use lib.ListN.{length}
+use Rattle.stores.proofs.Limits.{answers-done}
 use Rattle.card.specs.Layout.{memorySize}
 use Rattle.card.specs.Reading.{readable}
 use Rattle.card.proofs.Seen.{reads}
 use Rattle.card.proofs.Live.{sound}
 use Rattle.card.proofs.Cards.{readable-read}
+use Rattle.session.specs.Session.{unselected}
 use Rattle.purse_spec.specs.Calls.{Run, refusal}
 use Rattle.purse_spec.specs.Startup.{startup}
 use Rattle.purse_spec.specs.History.{Call, install, start, send, State, run, isStart, next, after, OnlyStarts}
+use Rattle.purse_spec.proofs.Performed.{leaves-nothing, performed-follows}
 use Rattle.purse_spec.proofs.Runs.{startup-holds, startup-runs}
 
 -- a start-up, whatever it answers, keeps memory, and so the reading
 pub startup-keeps : (m : List ℕ) (limit : ℕ) → startup m limit .memory ≡ m
 unfolding refusal
-startup-keeps m limit = startup-runs m (λ (r : ℕ → Run). r limit .memory ≡ m) (λ n g h. refl) (λ t. refl)
+startup-keeps m limit = startup-runs m (λ (r : ℕ → Run). r limit .memory ≡ m) (λ n g h. refl)
+    (λ t. performed-follows [] limit m unselected [] [] .memory ∙ leaves-nothing limit m)
 
 -- readable memory has its size
 pub readable-sized : (m : List ℕ) → readable m ≡ true → length m ≡ memorySize
@@ -26,7 +31,8 @@ readable-sized m t = sound m _ (reads m _ (readable-read m t)) .size
 -- and on it every start-up finishes, at any limit
 pub startup-finishes : (m : List ℕ) (limit : ℕ) → readable m ≡ true → startup m limit .answer ≡ 0
 startup-finishes m limit t =
-    startup-holds m (λ (r : ℕ → Run). r limit .answer ≡ 0) (λ e. absurd (e (readable-sized m t))) (λ e f. absurd (false≢true (sym f ∙ t))) (λ e f. refl)
+    startup-holds m (λ (r : ℕ → Run). r limit .answer ≡ 0) (λ e. absurd (e (readable-sized m t))) (λ e f. absurd (false≢true (sym f ∙ t)))
+    (λ e f. performed-follows [] limit m unselected [] [] .answer ∙ answers-done [] limit (omega arith))
 
 -- ---- in a list
 

@@ -7,13 +7,12 @@ use lib.Dec.{leb, eqb}
 use lib.ListN.{length}
 use Rattle.octets.specs.Choice.{pick}
 use Rattle.octets.specs.Bytes.{byteAt, part, field}
-use Rattle.stores.specs.Stores.{leaves, answers, reports}
 use Rattle.card.specs.declared.head.Fixed.{Fixed}
 use Rattle.card.specs.declared.head.KeySet.{KeySet}
 use Rattle.card.specs.Layout.{memorySize}
 use Rattle.card.specs.Changes.{installPlan}
 use Rattle.session.specs.Session.{unselected}
-use Rattle.purse_spec.specs.Calls.{Run, refusal}
+use Rattle.purse_spec.specs.Calls.{Run, refusal, performed}
 
 -- "a number out of range, too short or too long"
 unfoldable pub dataOk : List ℕ → Bool
@@ -38,7 +37,6 @@ keysOf d =
 -- 1, then 6; "Installation ignores what memory held"
 unfoldable pub installation : List ℕ → List ℕ → ℕ → Run
 installation m d limit =
-    let p = installPlan (fixedOf d) (keysOf d) in
     pick (not (eqb (length m) memorySize)) (refusal 1 unselected m [])
     (pick (not (dataOk d)) (refusal 6 unselected m [])
-    (record { answer = answers p limit; count = reports p limit; session = unselected; memory = leaves p limit m; length = 0; response = [] }))
+    (performed (installPlan (fixedOf d) (keysOf d)) limit m unselected [] []))

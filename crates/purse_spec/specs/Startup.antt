@@ -8,11 +8,11 @@ use Rattle.octets.specs.Choice.{pick}
 use Rattle.card.specs.Layout.{memorySize}
 use Rattle.card.specs.Reading.{readable}
 use Rattle.session.specs.Session.{unselected}
-use Rattle.purse_spec.specs.Calls.{Run, refusal}
+use Rattle.purse_spec.specs.Calls.{Run, refusal, performed}
 
 -- 1, then 2; "Start-up never answers 5"
 unfoldable pub startup : List ℕ → ℕ → Run
 startup m limit =
     pick (not (eqb (length m) memorySize)) (refusal 1 unselected m [])
     (pick (not (readable m)) (refusal 2 unselected m [])
-    (record { answer = 0; count = 0; session = unselected; memory = m; length = 0; response = [] }))
+    (performed [] limit m unselected [] []))

@@ -6,7 +6,7 @@ use Rattle.session.proofs.Reading.{unpacking-sized}
 use Rattle.session.proofs.Sizes.{Sized}
 use Rattle.host.specs.Host.{number, commandCall}
 use Rattle.host.proofs.Bounds.{command-small}
-use Rattle.host.proofs.Outcomes.{said-small, session-long, command-none, command-run}
+use Rattle.host.proofs.Outcomes.{gives-small, session-long, command-none, command-run}
 use borrow.Author.Needs.{needs}
 use Rattle.host.proofs.purse_command.Statement.{statement}
 use Rattle.host.proofs.purse_command.Tie as tie
@@ -49,7 +49,7 @@ hand-back-requires c κs =
     let a = k .before .args in
     let f : AreBytes (a .session .now) = λ j. omega (arith, b .before .before .slice-known2 .given j) in
     let z : Sized (u .unpack .result .session) = rw (u .unpack .ensures) (unpacking-sized (a .session .now) f) in
-    let s = said-small _ _ (r .command .ensures .0)
+    let s = gives-small _ _ _ _ (r .command .ensures)
     (command-small (a .memory .now) (u .unpack .result .session) (a .command .now) (a .random .now) _ _ (λ j. omega (arith, k .slice-known .given j)) z
     (λ j. omega (arith, b .before .shared-slice-known .given j)) (λ j. omega (arith, b .shared-slice-known2 .given j))) in (
       session-long (a .memory .now) (a .session .now) (a .command .now) (a .random .now) (a .response .now) (a .limit) (u .unpack .result) (u .unpack .ensures) f

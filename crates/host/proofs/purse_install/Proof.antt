@@ -2,7 +2,7 @@ use native.Mathlib.Omega.{arith}
 use Rattle.octets.proofs.Rules.{rules}
 use Rattle.host.specs.Host.{number, lengthTested, installCall}
 use Rattle.host.proofs.Bounds.{installation-small}
-use Rattle.host.proofs.Outcomes.{said-small, tested, no-response-installation}
+use Rattle.host.proofs.Outcomes.{gives-small, tested}
 use borrow.Author.Needs.{needs}
 use Rattle.host.proofs.purse_install.Statement.{statement}
 use Rattle.host.proofs.purse_install.Tie as tie
@@ -25,7 +25,7 @@ hand-back-requires c κs =
     let b = i .before .before in
     let m = b .before .before in
     let a = m .before .args in
-    let s = said-small _ _ (r .install .ensures .0)
+    let s = gives-small _ _ _ _ (r .install .ensures)
     (installation-small (a .memory .now) (a .bytes .now) _ (λ j. omega (arith, m .slice-known .given j)) (λ j. omega (arith, b .shared-slice-known .given j))) in
     (i .if2 .left, s .0, s .1)
 
@@ -41,7 +41,7 @@ returns-3 c =
     let h = c .before .before in
     let r = h .before .before .before .before in
     let i = r .before .before in
-    tested _ _ _ _ _ _ _ (i .before .if1 .left) (i .if2 .left) (no-response-installation _ _ _) (r .install .ensures .0) (r .install .ensures .1) (h .hand-back .ensures .0)
+    tested _ _ _ _ _ _ _ (i .before .if1 .left) (i .if2 .left) (r .install .ensures) (h .hand-back .ensures .0)
     (h .hand-back .ensures .1)
 
 pub purse-install-spec : {M : Type 1} → statement M

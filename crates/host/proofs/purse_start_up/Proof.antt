@@ -2,7 +2,7 @@ use native.Mathlib.Omega.{arith}
 use Rattle.octets.proofs.Rules.{rules}
 use Rattle.host.specs.Host.{number, lengthTested, startCall}
 use Rattle.host.proofs.Bounds.{startup-small}
-use Rattle.host.proofs.Outcomes.{said-small, tested, no-response-startup}
+use Rattle.host.proofs.Outcomes.{gives-small, tested}
 use borrow.Author.Needs.{needs}
 use Rattle.host.proofs.purse_start_up.Statement.{statement}
 use Rattle.host.proofs.purse_start_up.Tie as tie
@@ -23,7 +23,7 @@ hand-back-requires c κs =
     let r = c .before .before .before in
     let i = r .before .before in
     let k = i .before .before .before in
-    let s = said-small _ _ (r .start-up .ensures .0) (startup-small (k .before .args .memory .now) _ (λ i. omega (arith, k .slice-known .given i))) in
+    let s = gives-small _ _ _ _ (r .start-up .ensures) (startup-small (k .before .args .memory .now) _ (λ i. omega (arith, k .slice-known .given i))) in
     (i .if2 .left, s .0, s .1)
 
 same-length : tie.Need-same-length
@@ -38,7 +38,7 @@ returns-3 c =
     let h = c .before .before in
     let r = h .before .before .before .before in
     let i = r .before .before in
-    tested _ _ _ _ _ _ _ (i .before .if1 .left) (i .if2 .left) (no-response-startup _ _) (r .start-up .ensures .0) (r .start-up .ensures .1) (h .hand-back .ensures .0)
+    tested _ _ _ _ _ _ _ (i .before .if1 .left) (i .if2 .left) (r .start-up .ensures) (h .hand-back .ensures .0)
     (h .hand-back .ensures .1)
 
 pub purse-start-up-spec : {M : Type 1} → statement M

@@ -1,5 +1,5 @@
 use Rattle.octets.proofs.Rules.{rules}
-use Rattle.purse.specs.Said.{finished}
+use Rattle.purse.specs.Called.{underLimit}
 use borrow.Author.Needs.{needs}
 use Rattle.purse.proofs.calls.finish.Statement.{statement}
 use Rattle.purse.proofs.calls.finish.Tie as tie
@@ -8,11 +8,11 @@ unselected-requires : tie.Need-unselected-requires
 unselected-requires c κs = search needs
 
 returns : tie.Need-returns
-unfolding finished
+unfolding underLimit
 returns c = rw (c .unselected .ensures) (search rules depth 24)
 
 returns-2 : tie.Need-returns-2
-unfolding finished
+unfolding underLimit
 returns-2 c = search rules depth 24
 
 pub finish-spec : {M : Type 1} → statement M

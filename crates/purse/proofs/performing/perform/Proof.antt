@@ -1,5 +1,5 @@
 use Rattle.card.specs.Card.{Card}
-use Rattle.purse.proofs.Outcomes.{performed-run}
+use Rattle.purse.proofs.Outcomes.{outcome-gives}
 use borrow.Author.Needs.{needs}
 use Rattle.purse.proofs.performing.perform.Statement.{statement}
 use Rattle.purse.proofs.performing.perform.Tie as tie
@@ -27,7 +27,7 @@ returns c =
     λ (x : Card). λ e.
     let a = c .before .before .before .before in
     let k = a .before .before .before .before in
-    performed-run x _ _ _ _ _ _ _ _ _ (rw e (k .commit .ensures)) (a .answer .ensures) (c .before .size .ensures) (c .finish .ensures)
+    outcome-gives x _ _ _ _ _ _ _ _ _ (rw e (k .commit .ensures)) (a .answer .ensures) (c .before .size .ensures) (c .finish .ensures)
 
 pub perform-spec : {M : Type 1} → statement M
 perform-spec =
