@@ -17,7 +17,7 @@ use Rattle.session.specs.declared.Session.{Session}
 use Rattle.session.specs.Session.{unselected}
 use Rattle.session.proofs.Sizes.{unselected-sized}
 use Rattle.purse_spec.specs.Calls.{Run}
-use Rattle.purse_spec.specs.History.{Call, install, start, send, State, OfBytes, AllOfBytes, run, isStart, isInstall, next, after, Admissible, IsHistory}
+use Rattle.purse_spec.specs.History.{Call, install, start, send, Situation, OfBytes, AllOfBytes, run, isStart, isInstall, next, afterCalls, Admissible, IsHistory}
 use Rattle.purse_spec.specs.Ledger.{Ledger, empty, kept}
 use Rattle.purse_spec.proofs.Starting.{startup-keeps, startup-finishes}
 use Rattle.purse_spec.proofs.Answers.{hands-unselected}
@@ -52,27 +52,27 @@ file-bytes (suc k) s f = by (whole s) (file-bytes k (drop (recordSize s) s) (dro
 
 -- ---- the bench beside a state of demand 3
 
-record Beside (b : Bench) (st : State) : Type 0 where
+record Beside (b : Bench) (st : Situation) : Type 0 where
   pub memory : b .memory ≡ st .memory
   pub session : b .session ≡ pick (st .cut) unselected (st .session)
   pub typed : Typed st
   pub reads : readable (st .memory) ≡ true
 
 -- a call is given memory and session alone
-same-run : (c : Call) (x y : State) → x .memory ≡ y .memory → x .session ≡ y .session → run c x ≡ run c y
+same-run : (c : Call) (x y : Situation) → x .memory ≡ y .memory → x .session ≡ y .session → run c x ≡ run c y
 unfolding run
 same-run (install d limit) x y e f = rw e
 same-run (start limit) x y e f = rw e
 same-run (send bytes random area limit) x y e f = rw (e, f)
 
 -- and a start-up memory alone
-start-run : (c : Call) (x y : State) → isStart c ≡ true → x .memory ≡ y .memory → run c x ≡ run c y
+start-run : (c : Call) (x y : Situation) → isStart c ≡ true → x .memory ≡ y .memory → run c x ≡ run c y
 unfolding run isStart
 start-run (install d limit) x y h e = absurd (false≢true h)
 start-run (start limit) x y h e = rw e
 start-run (send bytes random area limit) x y h e = absurd (false≢true h)
 
-ran-run : (c : Call) (b : Bench) (st : State) → Beside b st → (st .cut ≡ true → isStart c ≡ true) → ran c b ≡ run c st
+ran-run : (c : Call) (b : Bench) (st : Situation) → Beside b st → (st .cut ≡ true → isStart c ≡ true) → ran c b ≡ run c st
 unfolding ran
 ran-run c b st h f = by (st .cut) refl
   where
@@ -92,7 +92,7 @@ sessions s t cut r e = by (eqb (r .answer) 7) (eqb (r .answer) 0)
     by false true = refl
     by false false = e
 
-beside-next : (c : Call) (b : Bench) (st : State) → Beside b st → (st .cut ≡ true → isStart c ≡ true) → OfBytes c → (isInstall c ≡ true → ran c b .answer ≡ 7 → ⊥)
+beside-next : (c : Call) (b : Bench) (st : Situation) → Beside b st → (st .cut ≡ true → isStart c ≡ true) → OfBytes c → (isInstall c ≡ true → ran c b .answer ≡ 7 → ⊥)
     → Beside (moved c b) (next c st)
 unfolding moved next
 beside-next c b st h f o n =
@@ -105,7 +105,7 @@ beside-next c b st h f o n =
     }
 
 -- the start-up that is put in
-module _ (b : Bench) (st : State) (h : Beside b st) (cut : st .cut ≡ true) where
+module _ (b : Bench) (st : Situation) (h : Beside b st) (cut : st .cut ≡ true) where
   finishes : run mending st .answer ≡ 0
   unfolding run mending
   finishes = startup-finishes (st .memory) 0xFFFF (h .reads)
@@ -134,10 +134,10 @@ module _ (b : Bench) (st : State) (h : Beside b st) (cut : st .cut ≡ true) whe
 
 -- ---- the list
 
-record Mends (xs : List Call) (b : Bench) (st : State) : Type 0 where
+record Mends (xs : List Call) (b : Bench) (st : Situation) : Type 0 where
   pub admissible : Admissible xs st
   pub bytes : AllOfBytes xs
-  pub memory : after xs st .memory ≡ b .memory
+  pub memory : afterCalls xs st .memory ≡ b .memory
 
 not-missing : (cut starts : Bool) → (cut && not starts) ≡ false → cut ≡ true → starts ≡ true
 not-missing true true e f = refl
@@ -148,10 +148,10 @@ is-missing : (cut starts : Bool) → (cut && not starts) ≡ true → cut ≡ tr
 is-missing true starts e = refl
 is-missing false starts e = e
 
-module _ (c : Call) (cs : List Call) (b last : Bench) (st : State) (h : Beside b st) (o : OfBytes c) (n : isInstall c ≡ true → ran c b .answer ≡ 7 → ⊥)
-    (rest : (st′ : State) → Beside (moved c b) st′ → Mends (mended cs st′) last st′) where
+module _ (c : Call) (cs : List Call) (b last : Bench) (st : Situation) (h : Beside b st) (o : OfBytes c) (n : isInstall c ≡ true → ran c b .answer ≡ 7 → ⊥)
+    (rest : (st′ : Situation) → Beside (moved c b) st′ → Mends (mended cs st′) last st′) where
   one-kept : (st .cut ≡ true → isStart c ≡ true) → Mends (c ∷ mended cs (next c st)) last st
-  unfolding Admissible AllOfBytes after
+  unfolding Admissible AllOfBytes afterCalls
   one-kept f =
       let r = rest (next c st) (beside-next c b st h f o n) in
       record {
@@ -160,10 +160,10 @@ module _ (c : Call) (cs : List Call) (b last : Bench) (st : State) (h : Beside b
         memory = r .memory;
       }
 
-one-mended : (c : Call) (cs : List Call) (b last : Bench) (st : State) → Beside b st → OfBytes c → (isInstall c ≡ true → ran c b .answer ≡ 7 → ⊥)
-    → ((st′ : State) → Beside (moved c b) st′ → Mends (mended cs st′) last st′) → (t : Bool) → missing c st ≡ t
+one-mended : (c : Call) (cs : List Call) (b last : Bench) (st : Situation) → Beside b st → OfBytes c → (isInstall c ≡ true → ran c b .answer ≡ 7 → ⊥)
+    → ((st′ : Situation) → Beside (moved c b) st′ → Mends (mended cs st′) last st′) → (t : Bool) → missing c st ≡ t
     → Mends (pick t (mending ∷ c ∷ mended cs (next c (next mending st))) (c ∷ mended cs (next c st))) last st
-unfolding missing Admissible AllOfBytes after mending isStart isInstall OfBytes
+unfolding missing Admissible AllOfBytes afterCalls mending isStart isInstall OfBytes
 one-mended c cs b last st h o n rest false e = one-kept c cs b last st h o n rest (not-missing (st .cut) (isStart c) e)
 one-mended c cs b last st h o n rest true e =
     let cut = is-missing (st .cut) (isStart c) e in
@@ -171,8 +171,8 @@ one-mended c cs b last st h o n rest true e =
     let r = one-kept c cs b last (next mending st) g o n rest (λ z. absurd (false≢true (sym (mends-cut b st h cut) ∙ z))) in
     record { admissible = ((λ z. refl), (λ z. absurd (false≢true z)), r .admissible); bytes = (tt, r .bytes); memory = r .memory }
 
-mends : (cs : List Call) (b : Bench) (st : State) → Beside b st → AllOfBytes cs → NoneCut cs b → Mends (mended cs st) (movedAll cs b) st
-unfolding mended Admissible AllOfBytes after movedAll NoneCut
+mends : (cs : List Call) (b : Bench) (st : Situation) → Beside b st → AllOfBytes cs → NoneCut cs b → Mends (mended cs st) (movedAll cs b) st
+unfolding mended Admissible AllOfBytes afterCalls movedAll NoneCut
 mends [] b st h f n = record { admissible = tt; bytes = tt; memory = sym (h .memory) }
 mends (c ∷ cs) b st h f n =
     one-mended c cs b (movedAll cs (moved c b)) st h (f .0) (n .0) (λ st′ g. mends cs (moved c b) st′ g (f .1) (n .1)) (missing c st) refl
@@ -181,7 +181,7 @@ mends (c ∷ cs) b st h f n =
 
 -- behind the first call, a finished installation
 beside-first : (c : Call) (b : Bench) → Typed (stateOf b) → OfBytes c → isInstall c ≡ true → ran c b .answer ≡ 0 → Beside (moved c b) (next c (stateOf b))
-unfolding stateOf ran moved next AllOfBytes IsHistory Admissible after
+unfolding stateOf ran moved next AllOfBytes IsHistory Admissible afterCalls
 beside-first c b t f i e =
     let st = stateOf b in
     let z = balance-law (c ∷ []) st empty (f, tt) (i, e, tt) in
@@ -195,7 +195,7 @@ beside-first c b t f i e =
 -- behind calls on any memory and in any session, whatever the ledger held before
 pub calls-balance : (cs : List Call) (b : Bench) (l : Ledger) → Typed (stateOf b) → AllOfBytes cs → StartsInstalled cs b
     → Balanced (stateOf (movedAll cs b)) (kept (mended cs (stateOf b)) (stateOf b) l)
-unfolding StartsInstalled AllOfBytes movedAll mended missing stateOf ran IsHistory after
+unfolding StartsInstalled AllOfBytes movedAll mended missing stateOf ran IsHistory afterCalls
 calls-balance [] b l t f h = absurd h
 calls-balance (c ∷ cs) b l t f h =
     let st = stateOf b in

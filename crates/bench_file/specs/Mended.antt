@@ -4,11 +4,11 @@ use mathlib.Core.Bool.{Bool, true, false, not, _&&_}
 use mathlib.Core.List.{List, [], _∷_}
 use mathlib.Core.Path.{_≡_}
 use Rattle.octets.specs.Choice.{pick}
-use Rattle.purse_spec.specs.History.{Call, start, State, isStart, isInstall, next}
+use Rattle.purse_spec.specs.History.{Call, start, Situation, isStart, isInstall, next}
 use Rattle.bench_file.specs.Lines.{Bench, ran, moved}
 
 -- the state of demand 3 that the bench starts with
-unfoldable pub stateOf : Bench → State
+unfoldable pub stateOf : Bench → Situation
 stateOf b = record { memory = b .memory; session = b .session; cut = false }
 
 -- the bench behind a list of calls
@@ -26,11 +26,11 @@ unfoldable pub mending : Call
 mending = start 0xFFFF
 
 -- "Start-ups alone follow each cut until one finishes": whether one is missing
-unfoldable pub missing : Call → State → Bool
+unfoldable pub missing : Call → Situation → Bool
 missing c st = st .cut && not (isStart c)
 
 -- the calls, with the start-ups that are missing
-unfoldable pub mended : List Call → State → List Call
+unfoldable pub mended : List Call → Situation → List Call
 mended [] st = []
 mended (c ∷ cs) st =
     pick (missing c st) (mending ∷ c ∷ mended cs (next c (next mending st)))

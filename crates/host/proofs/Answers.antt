@@ -21,7 +21,7 @@ use Rattle.purse_spec.specs.Calls.{Run, refusal}
 use Rattle.purse_spec.specs.Installation.{installation}
 use Rattle.purse_spec.specs.Startup.{startup}
 use Rattle.purse_spec.specs.Commands.{leastArea}
-use Rattle.purse_spec.specs.History.{Call, install, start, send, State, OfBytes, run}
+use Rattle.purse_spec.specs.History.{Call, install, start, send, Situation, OfBytes, run}
 use Rattle.purse_spec.proofs.Typed.{Typed}
 use Rattle.purse_spec.proofs.Answers.{Keeps, sessionFor, areaFor, answers-keep}
 use Rattle.host.specs.Host.{sessionSize, Handed, handed, number, areaAfter, outcome, lengthTested, installCall, startCall, inSession, commandCall}
@@ -33,7 +33,7 @@ abbrev pub answerOf : Handed → ℕ
 answerOf h = h .number % 256
 
 -- of a call on areas that gives h
-pub record Leaves (m area response : List ℕ) (h : Handed) : Type 0 where
+pub record LeavesAreas (m area response : List ℕ) (h : Handed) : Type 0 where
   -- "every session handed out reads back as itself"
   pub done : answerOf h ≡ 0 → (s : Session) × (h .session ≡ packed s) × (unpacked (h .session) ≡ some s)
   -- "7 leaves the response area untouched", and zeros, "which read as no session"
@@ -43,7 +43,7 @@ pub record Leaves (m area response : List ℕ) (h : Handed) : Type 0 where
 
 -- ---- a run of the purse
 
-module _ (x : Call) (st : State) (t : Typed st) (f : OfBytes x) (b : Small (run x st)) (area : List ℕ) where
+module _ (x : Call) (st : Situation) (t : Typed st) (f : OfBytes x) (b : Small (run x st)) (area : List ℕ) where
   abbrev R : Run
   R = run x st
 
@@ -69,7 +69,7 @@ module _ (x : Call) (st : State) (t : Typed st) (f : OfBytes x) (b : Small (run 
       let n : number (R .answer) (R .length) (R .count) ≡ R .answer = rw (ap (λ (r : Run). r .length) e, ap (λ (r : Run). r .count) e) (omega arith) in
       rw (ne-eqb (R .answer) 0 y, ne-eqb (R .answer) 7 z, n, ap (λ (r : Run). r .memory) e, ap (λ (r : Run). r .response) e)
 
-  run-leaves : Leaves (st .memory) area (areaFor x) (outcome R area)
+  run-leaves : LeavesAreas (st .memory) area (areaFor x) (outcome R area)
   run-leaves =
       record {
         done = λ e. done-leaves (sym answer-is ∙ e);
@@ -80,7 +80,7 @@ module _ (x : Call) (st : State) (t : Typed st) (f : OfBytes x) (b : Small (run 
 -- ---- the host's own refusals: 1, 3, 4 and 8
 
 module _ (m area response : List ℕ) where
-  refusal-leaves : (n : ℕ) → (n ≡ 0 → ⊥) → (n ≡ 7 → ⊥) → n < 256 → Leaves m area response (handed (number n 0 0) m area response)
+  refusal-leaves : (n : ℕ) → (n ≡ 0 → ⊥) → (n ≡ 7 → ⊥) → n < 256 → LeavesAreas m area response (handed (number n 0 0) m area response)
   unfolding number
   refusal-leaves n y z b =
       let e : (n + 256 * 0 + 65536 * 0) % 256 ≡ n = omega arith in
@@ -93,26 +93,26 @@ module _ (m area response : List ℕ) where
 
 -- ---- the three calls
 
-tested-leaves : (m area : List ℕ) (r : Run) → Leaves m area [] (outcome r area) → Leaves m area [] (lengthTested m area r)
+tested-leaves : (m area : List ℕ) (r : Run) → LeavesAreas m area [] (outcome r area) → LeavesAreas m area [] (lengthTested m area r)
 unfolding lengthTested
 tested-leaves m area r h =
-    pick-holds (Leaves m area []) (not (eqb (length m) memorySize)) _ _ (λ t. refusal-leaves m area [] 1 (λ e. omega arith) (λ e. omega arith) (omega arith))
-    (λ t. pick-holds (Leaves m area []) (not (eqb (length area) sessionSize)) _ _
+    pick-holds (LeavesAreas m area []) (not (eqb (length m) memorySize)) _ _ (λ t. refusal-leaves m area [] 1 (λ e. omega arith) (λ e. omega arith) (omega arith))
+    (λ t. pick-holds (LeavesAreas m area []) (not (eqb (length area) sessionSize)) _ _
     (λ u. refusal-leaves m area [] 8 (λ e. omega arith) (λ e. omega arith) (omega arith)) (λ u. h))
 
-pub install-leaves : (m area d : List ℕ) (limit : ℕ) → AreBytes m → AreBytes d → Leaves m area [] (installCall m area d limit)
+pub install-leaves : (m area d : List ℕ) (limit : ℕ) → AreBytes m → AreBytes d → LeavesAreas m area [] (installCall m area d limit)
 unfolding installCall run OfBytes areaFor
 install-leaves m area d limit f g =
     tested-leaves m area (installation m d limit)
     (run-leaves (install d limit) (alone m) (alone-typed m f) g (installation-small m d limit f g) area)
 
-pub start-leaves : (m area : List ℕ) (limit : ℕ) → AreBytes m → Leaves m area [] (startCall m area limit)
+pub start-leaves : (m area : List ℕ) (limit : ℕ) → AreBytes m → LeavesAreas m area [] (startCall m area limit)
 unfolding startCall run OfBytes areaFor
 start-leaves m area limit f =
     tested-leaves m area (startup m limit) (run-leaves (start limit) (alone m) (alone-typed m f) tt (startup-small m limit f) area)
 
 module _ (m area bytes random response : List ℕ) (limit : ℕ) (f : AreBytes m) (g : AreBytes area) (a : AreBytes bytes) (b : AreBytes random) where
-  in-session-leaves : (o : Option Session) → unpacked area ≡ o → Leaves m area response (inSession o m area bytes random response limit)
+  in-session-leaves : (o : Option Session) → unpacked area ≡ o → LeavesAreas m area response (inSession o m area bytes random response limit)
   unfolding inSession run OfBytes areaFor
   in-session-leaves none e = refusal-leaves m area response 8 (λ q. omega arith) (λ q. omega arith) (omega arith)
   in-session-leaves (some s) e =
@@ -120,12 +120,12 @@ module _ (m area bytes random response : List ℕ) (limit : ℕ) (f : AreBytes m
       run-leaves (send bytes random response limit) (record { memory = m; session = s; cut = false }) (record { memory = f; session = z }) (a, b)
       (command-small m s bytes random response limit f z a b) area
 
-  pub command-leaves : Leaves m area response (commandCall m area bytes random response limit)
+  pub command-leaves : LeavesAreas m area response (commandCall m area bytes random response limit)
   unfolding commandCall
   command-leaves =
-      pick-holds (Leaves m area response) (not (eqb (length m) memorySize)) _ _
+      pick-holds (LeavesAreas m area response) (not (eqb (length m) memorySize)) _ _
       (λ t. refusal-leaves m area response 1 (λ e. omega arith) (λ e. omega arith) (omega arith))
-      (λ t. pick-holds (Leaves m area response) (ltb (length response) leastArea) _ _
+      (λ t. pick-holds (LeavesAreas m area response) (ltb (length response) leastArea) _ _
       (λ u. refusal-leaves m area response 3 (λ e. omega arith) (λ e. omega arith) (omega arith))
-      (λ u. pick-holds (Leaves m area response) (not (eqb (length random) 8)) _ _
+      (λ u. pick-holds (LeavesAreas m area response) (not (eqb (length random) 8)) _ _
       (λ v. refusal-leaves m area response 4 (λ e. omega arith) (λ e. omega arith) (omega arith)) (λ v. in-session-leaves (unpacked area) refl)))

@@ -19,10 +19,10 @@ use Rattle.purse_spec.specs.Calls.{Run, refusal, performed}
 use Rattle.purse_spec.specs.Installation.{installation}
 use Rattle.purse_spec.specs.Startup.{startup}
 use Rattle.purse_spec.specs.Commands.{command}
-use Rattle.purse_spec.specs.History.{Call, install, start, send, State, limited, OfBytes, run}
+use Rattle.purse_spec.specs.History.{Call, install, start, send, Situation, limited, OfBytes, run}
 use Rattle.purse_spec.proofs.Performed.{by-limit}
 use Rattle.purse_spec.proofs.Runs.{installation-runs, startup-runs, command-runs}
-use Rattle.purse_spec.proofs.Counts.{Shape, refuses, stores, shape}
+use Rattle.purse_spec.proofs.Counts.{Shape, one-refusal, one-plan, shape}
 use Rattle.purse_spec.proofs.Typed.{Typed, sound-of}
 use Rattle.host.specs.Host.{number}
 
@@ -59,24 +59,24 @@ reports-few p L h =
 
 shape-few : (m : List ℕ) (f : ℕ → Run) → Shape m f → (L : ℕ) → (f L .answer < 256) × (f L .count < 65536)
 unfolding refusal
-shape-few m f (refuses n k l s area h) L =
+shape-few m f (one-refusal n k l s area h) L =
     let a : f L .answer ≡ n = ap (λ (r : Run). r .answer) (h L) in
     let c : f L .count ≡ 0 = ap (λ (r : Run). r .count) (h L) in
     (omega arith, omega arith)
-shape-few m f (stores p b h) L =
+shape-few m f (one-plan p b h) L =
     let a = h L .answer in
     let c = h L .count in
     let x = answers-few p L in
     let y = reports-few p L b in
     (omega arith, omega arith)
 
-run-few : (x : Call) (st : State) → Typed st → OfBytes x → (L : ℕ) → (run (limited L x) st .answer < 256) × (run (limited L x) st .count < 65536)
+run-few : (x : Call) (st : Situation) → Typed st → OfBytes x → (L : ℕ) → (run (limited L x) st .answer < 256) × (run (limited L x) st .count < 65536)
 run-few x st t f L = shape-few (st .memory) (λ K. run (limited K x) st) (shape x st t f) L
 
 -- ---- the three calls
 
 -- memory alone: installation and start-up take no session
-abbrev pub alone : List ℕ → State
+abbrev pub alone : List ℕ → Situation
 alone m = record { memory = m; session = unselected; cut = false }
 
 pub alone-typed : (m : List ℕ) → AreBytes m → Typed (alone m)

@@ -17,12 +17,13 @@ use Rattle.session.specs.declared.Session.{Session}
 use Rattle.session.specs.Packing.{unpacked}
 use Rattle.session.proofs.Sizes.{Sized}
 use Rattle.session.proofs.Reading.{reads-back, reads-array, reads-sized}
+use Rattle.commands_spec.specs.Order.{refuses, passes}
 use Rattle.purse_spec.specs.Calls.{Run}
 use Rattle.purse_spec.specs.Installation.{installation}
 use Rattle.purse_spec.specs.Startup.{startup}
 use Rattle.purse_spec.specs.Commands.{leastArea, command}
-use Rattle.purse_spec.specs.History.{Call, install, start, send, State, OfBytes, run, next}
-use Rattle.purse_spec.specs.Reasons.{First, NoReason, reasons}
+use Rattle.purse_spec.specs.History.{Call, install, start, send, Situation, OfBytes, run, next}
+use Rattle.purse_spec.specs.Reasons.{FirstReason, NoReason, reasons}
 use Rattle.purse_spec.proofs.Typed.{Typed, typed-next}
 use Rattle.purse_spec.proofs.Answers.{areaFor}
 use Rattle.purse_spec.proofs.Answered.{refusal-number, refused-whole}
@@ -31,8 +32,8 @@ use Rattle.host.specs.Reasons.{hosted, areaReasons, cardReasons, hostRea
 use Rattle.host.proofs.Bounds.{alone, alone-typed}
 
 -- memory, and the session that its area reads as
-abbrev pub within : List ℕ → Session → State
-within m s = record { memory = m; session = s; cut = false }
+abbrev pub situated : List ℕ → Session → Situation
+situated m s = record { memory = m; session = s; cut = false }
 
 -- ---- past 1, 3, 4 and 8
 
@@ -89,7 +90,7 @@ module _ (m area : List ℕ) where
     command-eight e f g u = rw (eq-eqb (length m) memorySize e, le-ltb (length response) leastArea f, eq-eqb (length random) 8 g, u)
 
 -- a refusal of the purse
-purse-refuses : (x : Call) (st : State) (area : List ℕ) (n : ℕ) → Typed st → OfBytes x → First (reasons x st) n
+purse-refuses : (x : Call) (st : Situation) (area : List ℕ) (n : ℕ) → Typed st → OfBytes x → FirstReason (reasons x st) n
     → outcome (run x st) area ≡ handed n (st .memory) area (areaFor x)
 unfolding outcome number areaAfter
 purse-refuses x st area n t f h =
@@ -116,27 +117,27 @@ module _ (m area : List ℕ) (f : AreBytes m) (g : AreBytes area) where
       by (some s) e = (s, e)
 
   -- "Order: 1, 3, 4, 8, 2, 5, 6": the first reason that holds is answered, and no area is changed
-  pub order : (x : Call) (n : ℕ) → OfBytes x → First (hostReasons x m area) n → hosted x m area ≡ handed n m area (areaFor x)
-  unfolding hostReasons areaReasons cardReasons reasons First hosted installCall startCall areaFor run
-  order (install d limit) n k (inl (w, e)) = rw e (tested-one m area (installation m d limit) w)
-  order (install d limit) n k (inr (a, inl (w, e))) = rw e (tested-eight m area (installation m d limit) (stable _ _ a) w)
-  order (install d limit) n k (inr (a, inr (b, h))) =
-      install-runs m area (stable _ _ a) d limit (stable _ _ b) ∙ purse-refuses (install d limit) (alone m) area n (alone-typed m f) k (inr (a, h))
-  order (start limit) n k (inl (w, e)) = rw e (tested-one m area (startup m limit) w)
-  order (start limit) n k (inr (a, inl (w, e))) = rw e (tested-eight m area (startup m limit) (stable _ _ a) w)
-  order (start limit) n k (inr (a, inr (b, h))) =
-      start-runs m area (stable _ _ a) limit (stable _ _ b) ∙ purse-refuses (start limit) (alone m) area n (alone-typed m f) k (inr (a, h))
-  order (send bytes random response limit) n k (inl (w, e)) = rw e (command-one m area bytes random response limit w)
-  order (send bytes random response limit) n k (inr (a, inl (w, e))) = rw e (command-three m area bytes random response limit (stable _ _ a) w)
-  order (send bytes random response limit) n k (inr (a, inr (b, inl (w, e)))) =
-      rw e (command-four m area bytes random response limit (stable _ _ a) (not-less _ _ b) w)
-  order (send bytes random response limit) n k (inr (a, inr (b, inr (c, inl (w, e))))) =
-      rw e (command-eight m area bytes random response limit (stable _ _ a) (not-less _ _ b) (stable _ _ c) (other-length w))
-  order (send bytes random response limit) n k (inr (a, inr (b, inr (c, inr (d, h))))) =
+  pub order : (x : Call) (n : ℕ) → OfBytes x → FirstReason (hostReasons x m area) n → hosted x m area ≡ handed n m area (areaFor x)
+  unfolding hostReasons areaReasons cardReasons reasons hosted installCall startCall areaFor run
+  order (install d limit) n k (refuses w) = tested-one m area (installation m d limit) w
+  order (install d limit) n k (passes a (refuses w)) = tested-eight m area (installation m d limit) (stable _ _ a) w
+  order (install d limit) n k (passes a (passes b h)) =
+      install-runs m area (stable _ _ a) d limit (stable _ _ b) ∙ purse-refuses (install d limit) (alone m) area n (alone-typed m f) k (passes a h)
+  order (start limit) n k (refuses w) = tested-one m area (startup m limit) w
+  order (start limit) n k (passes a (refuses w)) = tested-eight m area (startup m limit) (stable _ _ a) w
+  order (start limit) n k (passes a (passes b h)) =
+      start-runs m area (stable _ _ a) limit (stable _ _ b) ∙ purse-refuses (start limit) (alone m) area n (alone-typed m f) k (passes a h)
+  order (send bytes random response limit) n k (refuses w) = command-one m area bytes random response limit w
+  order (send bytes random response limit) n k (passes a (refuses w)) = command-three m area bytes random response limit (stable _ _ a) w
+  order (send bytes random response limit) n k (passes a (passes b (refuses w))) =
+      command-four m area bytes random response limit (stable _ _ a) (not-less _ _ b) w
+  order (send bytes random response limit) n k (passes a (passes b (passes c (refuses w)))) =
+      command-eight m area bytes random response limit (stable _ _ a) (not-less _ _ b) (stable _ _ c) (other-length w)
+  order (send bytes random response limit) n k (passes a (passes b (passes c (passes d h)))) =
       let r = session-read d in
       command-runs m area (stable _ _ a) bytes random response limit (r .0) (not-less _ _ b) (stable _ _ c) (r .1)
-      ∙ purse-refuses (send bytes random response limit) (within m (r .0)) area n (record { memory = f; session = reads-sized area (r .0) (r .1) g }) k
-      (inr (a, inr (b, inr (c, h))))
+      ∙ purse-refuses (send bytes random response limit) (situated m (r .0)) area n (record { memory = f; session = reads-sized area (r .0) (r .1) g }) k
+      (passes a (passes b (passes c h)))
 
 -- ---- what is handed over
 
@@ -153,13 +154,13 @@ pub record Hands (r : Run) (area : List ℕ) (h : Handed) : Type 0 where
   pub refused : (r .answer ≡ 0 → ⊥) → (r .answer ≡ 7 → ⊥) → h .session ≡ area
 
 -- the session of a finished call has the sizes of its type
-pub sized-done : (x : Call) (st : State) → Typed st → OfBytes x → run x st .answer ≡ 0 → Sized (run x st .session)
+pub sized-done : (x : Call) (st : Situation) → Typed st → OfBytes x → run x st .answer ≡ 0 → Sized (run x st .session)
 unfolding next
 sized-done x st t f e =
     let z = typed-next x st t f .session in
     rw (eq-eqb (run x st .answer) 0 e) at z
 
-run-hands : (x : Call) (st : State) (area : List ℕ) → Typed st → OfBytes x → Hands (run x st) area (outcome (run x st) area)
+run-hands : (x : Call) (st : Situation) (area : List ℕ) → Typed st → OfBytes x → Hands (run x st) area (outcome (run x st) area)
 unfolding outcome number areaAfter
 run-hands x st area t f =
     record {
@@ -179,12 +180,19 @@ ReadsAs (send bytes random response limit) area s = unpacked area ≡ some s
 
 -- past 1, 3, 4 and 8 a call hands over what the purse gives in that session
 pub hands : (x : Call) (m area : List ℕ) (s : Session) → AreBytes m → AreBytes area → OfBytes x → NoReason (areaReasons x m area) → ReadsAs x area s
-    → Hands (run x (within m s)) area (hosted x m area)
-unfolding areaReasons NoReason ReadsAs hosted run
+    → Hands (run x (situated m s)) area (hosted x m area)
+unfolding areaReasons ReadsAs hosted run
 hands (install d limit) m area s f g k n u =
-    rw (install-runs m area (stable _ _ (n .0)) d limit (stable _ _ (n .1 .0))) (run-hands (install d limit) (alone m) area (alone-typed m f) k)
+    let one : (length m ≡ 4096 → ⊥) → ⊥ = λ w. n 1 (refuses w) in
+    rw (install-runs m area (stable _ _ one) d limit (stable _ _ (λ w. n 8 (passes one (refuses w)))))
+    (run-hands (install d limit) (alone m) area (alone-typed m f) k)
 hands (start limit) m area s f g k n u =
-    rw (start-runs m area (stable _ _ (n .0)) limit (stable _ _ (n .1 .0))) (run-hands (start limit) (alone m) area (alone-typed m f) k)
+    let one : (length m ≡ 4096 → ⊥) → ⊥ = λ w. n 1 (refuses w) in
+    rw (start-runs m area (stable _ _ one) limit (stable _ _ (λ w. n 8 (passes one (refuses w)))))
+    (run-hands (start limit) (alone m) area (alone-typed m f) k)
 hands (send bytes random response limit) m area s f g k n u =
-    rw (command-runs m area (stable _ _ (n .0)) bytes random response limit s (not-less _ _ (n .1 .0)) (stable _ _ (n .1 .1 .0)) u)
-    (run-hands (send bytes random response limit) (within m s) area (record { memory = f; session = reads-sized area s u g }) k)
+    let one : (length m ≡ 4096 → ⊥) → ⊥ = λ w. n 1 (refuses w) in
+    let three : length response < 32 → ⊥ = λ w. n 3 (passes one (refuses w)) in
+    let four : (length random ≡ 8 → ⊥) → ⊥ = λ w. n 4 (passes one (passes three (refuses w))) in
+    rw (command-runs m area (stable _ _ one) bytes random response limit s (not-less _ _ three) (stable _ _ four) u)
+    (run-hands (send bytes random response limit) (situated m s) area (record { memory = f; session = reads-sized area s u g }) k)

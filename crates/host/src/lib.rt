@@ -1,13 +1,13 @@
 // The purse for C programs: installation, start-up and command over byte areas, the session in an area of 128 bytes. The result is one
 // number: the answer, the response's length and the reported stores. `include/purse.h` declares the three functions.
-mod handing;
+mod result;
 
 ghost use mathlib.Core.List.{[]};
 ghost use mathlib.Core.Path.{_≡_};
 ghost use Rattle.host.specs.Host.{handed, installCall, startCall, commandCall};
 use card::layout;
-use handing::hand_back;
 use purse::LEAST_AREA;
+use result::result;
 use session::unpack;
 
 // The session area's size.
@@ -31,7 +31,7 @@ pub extern "C" fn purse_install(
         return 8;
     }
     let called = purse::install(memory, bytes, limit);
-    hand_back(session, called)
+    result(session, called)
 }
 
 // Start-up: the unselected session on a card.
@@ -47,7 +47,7 @@ pub extern "C" fn purse_start_up(memory: &mut [u8], session: &mut [u8], limit: u
         return 8;
     }
     let called = purse::start_up(memory, limit);
-    hand_back(session, called)
+    result(session, called)
 }
 
 // A command, in the session that its area reads as.
@@ -79,5 +79,5 @@ pub extern "C" fn purse_command(
     }
     let current = read.session;
     let called = purse::command(memory, current, command, random, response, limit);
-    hand_back(session, called)
+    result(session, called)
 }

@@ -13,7 +13,7 @@ use Rattle.octets.specs.Bytes.{byteAt}
 use Rattle.octets.proofs.Conditions.{and-both}
 use Rattle.purse_spec.specs.Calls.{Run}
 use Rattle.purse_spec.specs.History.{install, start, send}
-use Rattle.purse_spec.specs.Ledger.{Note, Ledger, empty, noting, addedTo, statusWord, isInitialize, isComplete, noteOf, finished, fed}
+use Rattle.purse_spec.specs.Ledger.{Note, Ledger, empty, noting, addedTo, statusWord, isInitialize, isComplete, noteOf, fedCommand, fed}
 
 -- ---- what happens to a book b, which becomes c
 
@@ -103,7 +103,7 @@ module _ (bytes : List ℕ) (r : Run) (grew : Bool) (b : Ledger) where
 
   -- a command
   pub command-books : (random area : List ℕ) (limit : ℕ) → Books bytes r grew b (fed (send bytes random area limit) r grew b)
-  unfolding fed finished isInitialize isComplete noteOf noting
+  unfolding fed fedCommand isInitialize isComplete noteOf noting
   command-books random area limit =
       record {
         noted = λ e h w.

@@ -11,14 +11,14 @@ use Rattle.stores.proofs.Plans.{leaves-length}
 use Rattle.session.specs.declared.Session.{Session}
 use Rattle.session.specs.Session.{unselected}
 use Rattle.purse_spec.specs.Calls.{Run, refusal, performed}
-use Rattle.purse_spec.specs.History.{Call, install, start, send, State, run, isStart, isInstall}
+use Rattle.purse_spec.specs.History.{Call, install, start, send, Situation, run, isStart, isInstall}
 use Rattle.purse_spec.proofs.Performed.{by-limit}
 use Rattle.purse_spec.proofs.Runs.{installation-runs, startup-runs, command-runs}
 
 -- ---- what each leaves as it was
 
 -- the session that a call is given; installation and start-up take none, nor a response area
-unfoldable pub sessionFor : Call → State → Session
+unfoldable pub sessionFor : Call → Situation → Session
 sessionFor (install d limit) st = unselected
 sessionFor (start limit) st = unselected
 sessionFor (send bytes random area limit) st = st .session
@@ -52,7 +52,7 @@ performed-keeps p limit m s t reply area =
     (λ k. record { refused = λ y z. absurd (y refl); cut = λ z. absurd (omega arith); memory = leaves-length p limit m; response = length-paste area _ reply })
 
 -- every call
-pub answers-keep : (x : Call) (st : State) → Keeps (st .memory) (sessionFor x st) (areaFor x) (run x st)
+pub answers-keep : (x : Call) (st : Situation) → Keeps (st .memory) (sessionFor x st) (areaFor x) (run x st)
 unfolding run sessionFor areaFor
 answers-keep (install d limit) st =
     installation-runs (st .memory) (λ (r : ℕ → Run). Keeps (st .memory) unselected [] (r limit)) d (refusal-keeps (st .memory) unselected [])
@@ -69,7 +69,7 @@ unfolding performed
 none-selected p limit m = by-limit (λ (r : Run). r .session ≡ unselected) limit _ _ _ (λ k. refl) (λ k. refl)
 
 -- "installation and start-up take none and, on 0, hand back the unselected one"
-pub hands-unselected : (x : Call) (st : State) → (isInstall x || isStart x) ≡ true → run x st .session ≡ unselected
+pub hands-unselected : (x : Call) (st : Situation) → (isInstall x || isStart x) ≡ true → run x st .session ≡ unselected
 unfolding run refusal isInstall isStart
 hands-unselected (install d limit) st h =
     installation-runs (st .memory) (λ (r : ℕ → Run). r limit .session ≡ unselected) d (λ n k l. refl) (λ e t. none-selected _ limit (st .memory))
@@ -84,7 +84,7 @@ unfolding performed
 performed-listed p limit m s reply area = by-limit (λ (r : Run). r .answer ≤ 7) limit _ _ _ (λ k. omega arith) (λ k. omega arith)
 
 -- 0 to 7; 8 is the C host's
-pub listed : (x : Call) (st : State) → run x st .answer ≤ 7
+pub listed : (x : Call) (st : Situation) → run x st .answer ≤ 7
 unfolding run refusal
 listed (install d limit) st =
     installation-runs (st .memory) (λ (r : ℕ → Run). r limit .answer ≤ 7) d (λ n k l. omega arith) (λ e t. performed-listed _ limit (st .memory) _ _ _)

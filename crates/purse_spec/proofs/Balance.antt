@@ -20,25 +20,25 @@ use Rattle.commands_spec.specs.CompleteTransaction.{isNoted}
 use Rattle.commands_spec.proofs.Facts.{facts}
 use Rattle.purse_spec.specs.Calls.{Run, refusal, performed}
 use Rattle.purse_spec.specs.Installation.{dataOk, fixedOf, keysOf, installation}
-use Rattle.purse_spec.specs.History.{Call, install, start, send, State, OfBytes, AllOfBytes, run, isStart, isInstall, next, after, OnlyStarts, Admissible, IsHistory}
-use Rattle.purse_spec.specs.Ledger.{Ledger, empty, numberOf, grown, fed, startsOf, grewIn, kept}
+use Rattle.purse_spec.specs.History.{Call, install, start, send, Situation, OfBytes, AllOfBytes, run, isStart, isInstall, next, afterCalls, OnlyStarts, Admissible, IsHistory}
+use Rattle.purse_spec.specs.Ledger.{Ledger, empty, numberOf, hasGrown, fed, startsOf, grewIn, kept}
 use Rattle.purse_spec.proofs.Performed.{by-limit}
 use Rattle.purse_spec.proofs.Runs.{installed, installation-runs}
 use Rattle.purse_spec.proofs.Installing.{installable, installed-reads}
 use Rattle.purse_spec.proofs.Starting.{starts-keep}
-use Rattle.purse_spec.proofs.Booking.{Holds, Booked, refusal-booked, startup-booked, command-booked}
+use Rattle.purse_spec.proofs.Booking.{Agrees, BooksCall, refusal-booked, startup-booked, command-booked}
 
 -- ---- installation
 
-module _ (st : State) (b : Ledger) (d : List ℕ) (limit : ℕ) (f : AreBytes d) where
+module _ (st : Situation) (b : Ledger) (d : List ℕ) (limit : ℕ) (f : AreBytes d) where
   abbrev x : Call
   x = install d limit
 
   -- a finished one starts the ledger anew
-  installed-booked : length (st .memory) ≡ memorySize → dataOk d ≡ true → (installed (st .memory) d limit .answer ≡ 7 → ⊥) → Booked x st b (installed (st .memory) d limit)
+  installed-booked : length (st .memory) ≡ memorySize → dataOk d ≡ true → (installed (st .memory) d limit .answer ≡ 7 → ⊥) → BooksCall x st b (installed (st .memory) d limit)
   unfolding performed fed empty fresh freshHead unselected isNoted
   installed-booked e t =
-      by-limit (λ (r : Run). (r .answer ≡ 7 → ⊥) → Booked x st b r) limit _ _ _ (λ k n. absurd (n refl))
+      by-limit (λ (r : Run). (r .answer ≡ 7 → ⊥) → BooksCall x st b r) limit _ _ _ (λ k n. absurd (n refl))
       (λ k n g q. record {
         card = fresh (fixedOf d) (keysOf d);
         reads = installed-reads (st .memory) d limit f e t k;
@@ -49,16 +49,16 @@ module _ (st : State) (b : Ledger) (d : List ℕ) (limit : ℕ) (f : AreBytes d)
       })
 
   -- on any memory
-  first-booked : installation (st .memory) d limit .answer ≡ 0 → Booked x st b (installation (st .memory) d limit)
+  first-booked : installation (st .memory) d limit .answer ≡ 0 → BooksCall x st b (installation (st .memory) d limit)
   unfolding refusal
   first-booked =
-      installation-runs (st .memory) (λ (r : ℕ → Run). r limit .answer ≡ 0 → Booked x st b (r limit)) d
+      installation-runs (st .memory) (λ (r : ℕ → Run). r limit .answer ≡ 0 → BooksCall x st b (r limit)) d
       (λ n k l z. absurd (omega arith)) (λ e t z. installed-booked e t (λ s. omega arith))
 
   -- and later in the list, where it may be refused
-  later-booked : Holds (st .memory) (st .session) b → (installation (st .memory) d limit .answer ≡ 7 → ⊥) → Booked x st b (installation (st .memory) d limit)
+  later-booked : Agrees (st .memory) (st .session) b → (installation (st .memory) d limit .answer ≡ 7 → ⊥) → BooksCall x st b (installation (st .memory) d limit)
   later-booked h =
-      installation-runs (st .memory) (λ (r : ℕ → Run). (r limit .answer ≡ 7 → ⊥) → Booked x st b (r limit)) d
+      installation-runs (st .memory) (λ (r : ℕ → Run). (r limit .answer ≡ 7 → ⊥) → BooksCall x st b (r limit)) d
       (λ n k l z. refusal-booked st b h x n k l _ _) (λ e t n. installed-booked e t n)
 
 -- ---- any call, any list
@@ -71,14 +71,14 @@ starts-only (y ∷ xs) =
     pick-holds OnlyStarts (isStart y) _ _ (λ e. (e, starts-only xs)) (λ e. tt)
 
 -- the number that memory reads after the start-ups directly behind a call is the one that it reads directly after the call
-grew-now : (y : Call) (xs : List Call) (st : State) → grewIn y xs st ≡ grown (numberOf (readCard (st .memory))) (numberOf (readCard (next y st .memory)))
+grew-now : (y : Call) (xs : List Call) (st : Situation) → grewIn y xs st ≡ hasGrown (numberOf (readCard (st .memory))) (numberOf (readCard (next y st .memory)))
 unfolding grewIn
 grew-now y xs st =
-    ap (λ (m : List ℕ). grown (numberOf (readCard (st .memory))) (numberOf (readCard m))) (starts-keep (startsOf xs) (next y st) (starts-only xs))
+    ap (λ (m : List ℕ). hasGrown (numberOf (readCard (st .memory))) (numberOf (readCard m))) (starts-keep (startsOf xs) (next y st) (starts-only xs))
 
 -- any call but a cut installation
-call-booked : (y : Call) (st : State) (b : Ledger) → OfBytes y → (isInstall y ≡ true → run y st .answer ≡ 7 → ⊥) → Holds (st .memory) (st .session) b
-    → Booked y st b (run y st)
+call-booked : (y : Call) (st : Situation) (b : Ledger) → OfBytes y → (isInstall y ≡ true → run y st .answer ≡ 7 → ⊥) → Agrees (st .memory) (st .session) b
+    → BooksCall y st b (run y st)
 unfolding run OfBytes isInstall
 call-booked (install d limit) st b f n h = later-booked st b d limit f h (n refl)
 call-booked (start limit) st b f n h = startup-booked st b h limit
@@ -86,9 +86,9 @@ call-booked (send bytes random area limit) st b f n h =
     command-booked st b h bytes random area limit (λ e. record { proper = h .proper; sized = h .sized; bytes = f .0; drawn = record { long = e; bytes = f .1 } })
 
 -- that start-ups alone follow a cut isn't used: a cut command leaves balance, number and note as they were
-list-holds : (xs : List Call) (st : State) (b : Ledger) → AllOfBytes xs → Admissible xs st → Holds (st .memory) (st .session) b
-    → Holds (after xs st .memory) (after xs st .session) (kept xs st b)
-unfolding AllOfBytes Admissible after kept next
+list-holds : (xs : List Call) (st : Situation) (b : Ledger) → AllOfBytes xs → Admissible xs st → Agrees (st .memory) (st .session) b
+    → Agrees (afterCalls xs st .memory) (afterCalls xs st .session) (kept xs st b)
+unfolding AllOfBytes Admissible afterCalls kept next
 list-holds [] st b f a h = h
 list-holds (y ∷ xs) st b f a h =
     list-holds xs (next y st) (fed y (run y st) (grewIn y xs st) b) (f .1) (a .2)
@@ -97,18 +97,18 @@ list-holds (y ∷ xs) st b f a h =
 -- ---- the law
 
 -- memory reads as a card; its balance and completed debits make up completed credits; and it is at most the maximum balance
-pub record Balanced (st : State) (b : Ledger) : Type 0 where
+pub record Balanced (st : Situation) (b : Ledger) : Type 0 where
   pub card : Card
   pub reads : readCard (st .memory) ≡ some card
   pub sum : card .head .state .balance + b .debits ≡ b .credits
   pub limit : card .head .state .balance ≤ card .head .purse .parameters .maxbalance
 
-balanced : (st : State) (b : Ledger) → Holds (st .memory) (st .session) b → Balanced st b
+balanced : (st : Situation) (b : Ledger) → Agrees (st .memory) (st .session) b → Balanced st b
 balanced st b h = record { card = h .card; reads = h .reads; sum = h .sum; limit = facts (h .card .head) (h .proper .tests) .balance }
 
 -- THE BALANCE LAW: on any memory, in any session, whatever the ledger held before, every list that starts with a finished installation
-pub balance-law : (xs : List Call) (st : State) (b : Ledger) → AllOfBytes xs → IsHistory xs st → Balanced (after xs st) (kept xs st b)
-unfolding AllOfBytes IsHistory after kept isInstall run OfBytes next
+pub balance-law : (xs : List Call) (st : Situation) (b : Ledger) → (given : AllOfBytes xs) → (history : IsHistory xs st) → Balanced (afterCalls xs st) (kept xs st b)
+unfolding AllOfBytes IsHistory afterCalls kept isInstall run OfBytes next
 balance-law [] st b f h = absurd h
 balance-law (install d limit ∷ xs) st b f h =
     let y = install d limit in

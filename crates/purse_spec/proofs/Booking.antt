@@ -41,8 +41,8 @@ use Rattle.commands_spec.proofs.Proper.{respond-proper}
 use Rattle.purse_spec.specs.Calls.{Run, refusal, performed}
 use Rattle.purse_spec.specs.Startup.{startup}
 use Rattle.purse_spec.specs.Commands.{outcomePlan, outcomeRun, command}
-use Rattle.purse_spec.specs.History.{Call, install, start, send, State}
-use Rattle.purse_spec.specs.Ledger.{Note, Ledger, noting, addedTo, statusWord, isInitialize, isComplete, noteOf, numberOf, grown, finished, fed}
+use Rattle.purse_spec.specs.History.{Call, install, start, send, Situation}
+use Rattle.purse_spec.specs.Ledger.{Note, Ledger, noting, addedTo, statusWord, isInitialize, isComplete, noteOf, numberOf, hasGrown, fedCommand, fed}
 use Rattle.purse_spec.proofs.Performed.{leaves-nothing, by-limit}
 use Rattle.purse_spec.proofs.Runs.{startup-runs, command-on}
 use Rattle.purse_spec.proofs.Names.{ins94, begins-not, begins-named}
@@ -54,7 +54,7 @@ abbrev pub noteFor : Pending → Note
 noteFor p = record { debit = isDebit p; amount = amountOf p }
 
 -- of a memory and a session: a proper card is read, its balance is the sum, and an amount that is pending is the note
-pub record Holds (m : List ℕ) (s : Session) (b : Ledger) : Type 0 where
+pub record Agrees (m : List ℕ) (s : Session) (b : Ledger) : Type 0 where
   pub card : Card
   pub reads : readCard m ≡ some card
   pub proper : Proper card
@@ -65,7 +65,7 @@ pub record Holds (m : List ℕ) (s : Session) (b : Ledger) : Type 0 where
 -- ---- the ledger's sums
 
 -- a session without an amount
-quiet : (m : List ℕ) (s : Session) (b : Ledger) (n : Option Note) → Holds m s b → (t : Session) → Sized t → isNoted (t .pending) ≡ false → Holds m t (noting n b)
+quiet : (m : List ℕ) (s : Session) (b : Ledger) (n : Option Note) → Agrees m s b → (t : Session) → Sized t → isNoted (t .pending) ≡ false → Agrees m t (noting n b)
 unfolding noting
 quiet m s b n h t z e =
     record { card = h .card; reads = h .reads; proper = h .proper; sized = z; sum = h .sum; note = λ k. absurd (false≢true (sym e ∙ k)) }
@@ -89,13 +89,13 @@ noted-note p1 amount = go (eqb p1 0x00)
     go false = refl
 
 -- a kept number hasn't grown
-not-grown : (c d : Card) → Kept c d → grown (numberOf (some c)) (numberOf (some d)) ≡ false
-unfolding grown numberOf
+not-grown : (c d : Card) → Kept c d → hasGrown (numberOf (some c)) (numberOf (some d)) ≡ false
+unfolding hasGrown numberOf
 not-grown c d k = le-ltb (c .head .state .number) (d .head .state .number) (let e = k .number in omega arith)
 
 -- ---- a finished command
 
-module _ (m : List ℕ) (s : Session) (b : Ledger) (h : Holds m s b) (bytes random : List ℕ) (i : Sound (h .card) s bytes random) where
+module _ (m : List ℕ) (s : Session) (b : Ledger) (h : Agrees m s b) (bytes random : List ℕ) (i : Sound (h .card) s bytes random) where
   abbrev c : Card
   c = h .card
 
@@ -107,7 +107,7 @@ module _ (m : List ℕ) (s : Session) (b : Ledger) (h : Holds m s b) (bytes rand
 
   module _ (m′ : List ℕ) (e : readCard m′ ≡ some (cardAfter c s bytes random)) where
     abbrev H : Ledger → Type 0
-    H l = Holds m′ (O .session) l
+    H l = Agrees m′ (O .session) l
 
     -- the card that it leaves, with a ledger of its balance
     after-holds : (l : Ledger) → cardAfter c s bytes random .head .state .balance + l .debits ≡ l .credits
@@ -148,8 +148,8 @@ module _ (m : List ℕ) (s : Session) (b : Ledger) (h : Holds m s b) (bytes rand
         unmoved none (only-complete-moves c s bytes random .kept y) (λ k. absurd (false≢true (sym (others-note-nothing c s bytes random x) ∙ k)))
 
     -- what it leaves, with the ledger fed its status word
-    finished-booked : H (finished bytes w b)
-    unfolding finished isInitialize isComplete ins94 of94
+    finished-booked : H (fedCommand bytes w b)
+    unfolding fedCommand isInitialize isComplete ins94 of94
     finished-booked =
         pick-holds H (isInitialize bytes && eqb w 0x9000) _ _
         (λ t. let a = and-both (isInitialize bytes) (eqb w 0x9000) t in initialize-booked (begins-named bytes 0x44 (a .0)) (eqb-true w 0x9000 (a .1)))
@@ -160,25 +160,25 @@ module _ (m : List ℕ) (s : Session) (b : Ledger) (h : Holds m s b) (bytes rand
 -- ---- one call
 
 -- behind a call that gave r, with the ledger fed
-abbrev pub Booked : Call → State → Ledger → Run → Type 0
-Booked x st b r =
-    (g : Bool) → g ≡ grown (numberOf (readCard (st .memory))) (numberOf (readCard (r .memory)))
-    → Holds (r .memory) (pick (eqb (r .answer) 0) (r .session) (st .session)) (fed x r g b)
+abbrev pub BooksCall : Call → Situation → Ledger → Run → Type 0
+BooksCall x st b r =
+    (g : Bool) → g ≡ hasGrown (numberOf (readCard (st .memory))) (numberOf (readCard (r .memory)))
+    → Agrees (r .memory) (pick (eqb (r .answer) 0) (r .session) (st .session)) (fed x r g b)
 
-module _ (st : State) (b : Ledger) (h : Holds (st .memory) (st .session) b) where
+module _ (st : Situation) (b : Ledger) (h : Agrees (st .memory) (st .session) b) where
   -- a refusal
-  pub refusal-booked : (x : Call) (n : ℕ) → 1 ≤ n → n ≤ 6 → (s : Session) (area : List ℕ) → Booked x st b (refusal n s (st .memory) area)
+  pub refusal-booked : (x : Call) (n : ℕ) → 1 ≤ n → n ≤ 6 → (s : Session) (area : List ℕ) → BooksCall x st b (refusal n s (st .memory) area)
   unfolding refusal fed
   refusal-booked (install d limit) n k l s area g q = rw (ne-eqb n 0 (λ z. omega arith)) h
   refusal-booked (start limit) n k l s area g q = rw (ne-eqb n 0 (λ z. omega arith)) h
   refusal-booked (send bytes random mine limit) n k l s area g q = rw (ne-eqb n 0 (λ z. omega arith), ne-eqb n 7 (λ z. omega arith)) h
 
   -- a start-up
-  pub startup-booked : (limit : ℕ) → Booked (start limit) st b (startup (st .memory) limit)
+  pub startup-booked : (limit : ℕ) → BooksCall (start limit) st b (startup (st .memory) limit)
   unfolding performed fed unselected isNoted
   startup-booked limit =
-      startup-runs (st .memory) (λ (r : ℕ → Run). Booked (start limit) st b (r limit)) (λ n k l. refusal-booked (start limit) n k l _ _)
-      (λ t. by-limit (Booked (start limit) st b) limit _ _ _ (λ k. absurd (omega arith))
+      startup-runs (st .memory) (λ (r : ℕ → Run). BooksCall (start limit) st b (r limit)) (λ n k l. refusal-booked (start limit) n k l _ _)
+      (λ t. by-limit (BooksCall (start limit) st b) limit _ _ _ (λ k. absurd (omega arith))
       (λ k g q. rw (leaves-nothing limit (st .memory)) (quiet (st .memory) (st .session) b none h unselected unselected-sized refl)))
 
   module _ (bytes random area : List ℕ) (limit : ℕ) (i : length random ≡ 8 → Sound (h .card) (st .session) bytes random) where
@@ -193,7 +193,7 @@ module _ (st : State) (b : Ledger) (h : Holds (st .memory) (st .session) b) wher
 
     -- cut: the number hasn't grown, and the ledger stays
     cut-booked : Sound (h .card) (st .session) bytes random → limit < length (outcomePlan (h .card) o (st .memory)) → (g : Bool)
-        → g ≡ grown (numberOf (readCard (st .memory))) (numberOf (readCard left)) → Holds left (st .session) (pick (isComplete bytes && g) (addedTo (b .note) b) b)
+        → g ≡ hasGrown (numberOf (readCard (st .memory))) (numberOf (readCard left)) → Agrees left (st .session) (pick (isComplete bytes && g) (addedTo (b .note) b) b)
     cut-booked j l g q =
         let r = performed-cut (st .memory) (h .card) (st .session) bytes random (h .reads) j limit l in
         let k = cut-keeps (r .2) in
@@ -211,21 +211,21 @@ module _ (st : State) (b : Ledger) (h : Holds (st .memory) (st .session) b) wher
 
     -- finished
     done-booked : Sound (h .card) (st .session) bytes random → 32 ≤ length area → length (outcomePlan (h .card) o (st .memory)) ≤ limit
-        → Holds left (o .session) (finished bytes (wordAt (paste area 0 (content (o .reply))) (length (content (o .reply)) - 2)) b)
+        → Agrees left (o .session) (fedCommand bytes (wordAt (paste area 0 (content (o .reply))) (length (content (o .reply)) - 2)) b)
     done-booked j a l =
         let y = reply-short (h .card) (st .session) bytes random j in
         let n : length (content (o .reply)) ≤ 32 = y .1 in
         let e = last-word (content (o .reply)) area (o .status) (y .0) (omega arith) (status-listed (h .card) (st .session) bytes random .last) in
-        subst (λ (w : ℕ). Holds left (o .session) (finished bytes w b)) (sym e)
+        subst (λ (w : ℕ). Agrees left (o .session) (fedCommand bytes w b)) (sym e)
         (finished-booked (st .memory) (st .session) b h bytes random j left (performed-done (st .memory) (h .card) (st .session) bytes random (h .reads) j limit l))
 
-    performed-booked : 32 ≤ length area → Sound (h .card) (st .session) bytes random → Booked x st b (outcomeRun (h .card) o (st .memory) area limit)
+    performed-booked : 32 ≤ length area → Sound (h .card) (st .session) bytes random → BooksCall x st b (outcomeRun (h .card) o (st .memory) area limit)
     unfolding performed fed statusWord
     performed-booked a j =
-        by-limit (Booked x st b) limit _ _ _ (λ t g q. cut-booked j t g q) (λ t g q. done-booked j a t)
+        by-limit (BooksCall x st b) limit _ _ _ (λ t g q. cut-booked j t g q) (λ t g q. done-booked j a t)
 
     -- a command
-    pub command-booked : Booked x st b (command (st .memory) (st .session) bytes random area limit)
+    pub command-booked : BooksCall x st b (command (st .memory) (st .session) bytes random area limit)
     command-booked =
-        command-on (st .memory) (λ (r : ℕ → Run). Booked x st b (r limit)) (st .session) bytes random area (h .card) (h .reads)
+        command-on (st .memory) (λ (r : ℕ → Run). BooksCall x st b (r limit)) (st .session) bytes random area (h .card) (h .reads)
         (λ n k l. refusal-booked x n k l (st .session) area) (λ t u. performed-booked t (i u))

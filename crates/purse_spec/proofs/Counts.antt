@@ -21,22 +21,22 @@ use Rattle.purse_spec.specs.Calls.{Run, refusal}
 use Rattle.purse_spec.specs.Installation.{fixedOf, keysOf, installation}
 use Rattle.purse_spec.specs.Startup.{startup}
 use Rattle.purse_spec.specs.Commands.{outcomePlan, command}
-use Rattle.purse_spec.specs.History.{Call, install, start, send, State, limited, OfBytes, run}
+use Rattle.purse_spec.specs.History.{Call, install, start, send, Situation, limited, OfBytes, run}
 use Rattle.purse_spec.proofs.Performed.{Follows, performed-follows}
-use Rattle.purse_spec.proofs.Runs.{Refused, installation-runs, startup-runs, command-runs}
+use Rattle.purse_spec.proofs.Runs.{AnyRefusal, installation-runs, startup-runs, command-runs}
 use Rattle.purse_spec.proofs.Installing.{installable}
 use Rattle.purse_spec.proofs.Performing.{performed-few}
-use Rattle.purse_spec.proofs.Sound.{Typed, sound-of}
+use Rattle.purse_spec.proofs.Promised.{Typed, sound-of}
 
 -- ---- a call is one refusal at every limit, or the stores of one plan
 
 -- a call f on memory m
 pub data Shape (m : List ℕ) (f : ℕ → Run) : Type 0 where
-  refuses : (n : ℕ) → 1 ≤ n → n ≤ 6 → (s : Session) (area : List ℕ) → ((L : ℕ) → f L ≡ refusal n s m area) → Shape m f
-  stores : (p : List Store) → length p ≤ 65535 → ((L : ℕ) → Follows p L m (f L)) → Shape m f
+  one-refusal : (n : ℕ) → 1 ≤ n → n ≤ 6 → (s : Session) (area : List ℕ) → ((L : ℕ) → f L ≡ refusal n s m area) → Shape m f
+  one-plan : (p : List Store) → length p ≤ 65535 → ((L : ℕ) → Follows p L m (f L)) → Shape m f
 
-refused-shape : (m : List ℕ) (s : Session) (area : List ℕ) → Refused (Shape m) s m area
-refused-shape m s area n k l = refuses n k l s area (λ L. refl)
+refused-shape : (m : List ℕ) (s : Session) (area : List ℕ) → AnyRefusal (Shape m) s m area
+refused-shape m s area n k l = one-refusal n k l s area (λ L. refl)
 
 installation-shape : (m d : List ℕ) → AreBytes d → Shape m (λ L. installation m d L)
 installation-shape m d f =
@@ -44,11 +44,11 @@ installation-shape m d f =
     (λ e t.
     let i = installable d f t in
     let n = install-length (fixedOf d) (keysOf d) (i .aid) (i .keys) in
-    stores (installPlan (fixedOf d) (keysOf d)) (omega arith) (λ L. performed-follows _ L m _ _ _))
+    one-plan (installPlan (fixedOf d) (keysOf d)) (omega arith) (λ L. performed-follows _ L m _ _ _))
 
 startup-shape : (m : List ℕ) → Shape m (λ L. startup m L)
 startup-shape m =
-    startup-runs m (Shape m) (refused-shape m _ _) (λ t. stores [] (omega arith) (λ L. performed-follows [] L m _ _ _))
+    startup-runs m (Shape m) (refused-shape m _ _) (λ t. one-plan [] (omega arith) (λ L. performed-follows [] L m _ _ _))
 
 command-shape : (m : List ℕ) (s : Session) (bytes random area : List ℕ) → AreBytes m → Sized s → AreBytes bytes → AreBytes random
     → Shape m (λ L. command m s bytes random area L)
@@ -57,10 +57,10 @@ command-shape m s bytes random area f z a b =
     (λ c t u e.
     let i = sound-of m c s bytes random f e z a b u in
     let o = respond c s bytes random in
-    stores (outcomePlan c o m) (performed-few m c s bytes random e i) (λ L. performed-follows _ L m _ _ _))
+    one-plan (outcomePlan c o m) (performed-few m c s bytes random e i) (λ L. performed-follows _ L m _ _ _))
 
 -- every call
-pub shape : (x : Call) (st : State) → Typed st → OfBytes x → Shape (st .memory) (λ L. run (limited L x) st)
+pub shape : (x : Call) (st : Situation) → Typed st → OfBytes x → Shape (st .memory) (λ L. run (limited L x) st)
 unfolding run limited OfBytes
 shape (install d limit) st t f = installation-shape (st .memory) d f
 shape (start limit) st t f = startup-shape (st .memory)
@@ -88,7 +88,7 @@ pub record Stored (m : List ℕ) (f : ℕ → Run) : Type 0 where
 
 shape-stored : (m : List ℕ) (f : ℕ → Run) → Shape m f → Stored m f
 unfolding refusal
-shape-stored m f (refuses n k l s area h) =
+shape-stored m f (one-refusal n k l s area h) =
     let a : (L : ℕ) → f L .answer ≡ n = λ L. ap (λ (r : Run). r .answer) (h L) in
     let b : (L : ℕ) → f L .memory ≡ m = λ L. ap (λ (r : Run). r .memory) (h L) in
     record {
@@ -101,7 +101,7 @@ shape-stored m f (refuses n k l s area h) =
       seven = λ L z. absurd (omega (arith, a L));
       refused = λ L y z. ap (λ (r : Run). r .count) (h L);
     }
-shape-stored m f (stores p b h) =
+shape-stored m f (one-plan p b h) =
     let n : length p ≡ leastLimit (λ K. f K .answer) = sym (least-plan p b) ∙ least-same (answers p) (λ K. f K .answer) (λ K. sym (h K .answer)) in
     let done : (L : ℕ) → f L .answer ≡ 0 → answers p L ≡ 0 = λ L z. sym (h L .answer) ∙ z in
     let counted : (L : ℕ) → f L .answer ≡ 0 → f L .count ≡ length p = λ L z. h L .count ∙ reports-count p L (done L z) in
@@ -125,5 +125,5 @@ shape-stored m f (stores p b h) =
     }
 
 -- of every call
-pub stores-law : (x : Call) (st : State) → Typed st → OfBytes x → Stored (st .memory) (λ L. run (limited L x) st)
+pub stores-law : (x : Call) (st : Situation) → Typed st → OfBytes x → Stored (st .memory) (λ L. run (limited L x) st)
 stores-law x st t f = shape-stored (st .memory) (λ L. run (limited L x) st) (shape x st t f)

@@ -14,14 +14,15 @@ use Rattle.card.specs.Reading.{readCard}
 use Rattle.card.proofs.Seen.{reads}
 use Rattle.card.proofs.Live.{sound}
 use Rattle.session.specs.declared.Session.{Session}
+use Rattle.commands_spec.specs.Order.{passes}
 use Rattle.commands_spec.specs.Respond.{respond, cardAfter}
 use Rattle.commands_spec.proofs.Sizes.{reply-short}
 use Rattle.purse_spec.specs.Calls.{Run, awaits}
-use Rattle.purse_spec.specs.History.{Call, send, State, OfBytes, run}
+use Rattle.purse_spec.specs.History.{Call, send, Situation, OfBytes, run}
 use Rattle.purse_spec.specs.Ledger.{statusWord}
-use Rattle.purse_spec.specs.Reasons.{NoReason, reasons, limitOf, storesOf, finished}
-use Rattle.purse_spec.proofs.Sound.{Typed, sound-of}
-use Rattle.purse_spec.proofs.Cut.{command-left}
+use Rattle.purse_spec.specs.Reasons.{reasons, limitOf, storesOf, Ends, finished, Due}
+use Rattle.purse_spec.proofs.Promised.{Typed, sound-of}
+use Rattle.purse_spec.proofs.Tearing.{command-left}
 use Rattle.purse_spec.proofs.Responses.{responds}
 use Rattle.purse_spec.proofs.Answered.{exactly, few-stores}
 
@@ -38,16 +39,18 @@ pub record Meets (c : Card) (s : Session) (bytes random area : List ℕ) (r : Ru
   -- and the card that memory reads as afterwards
   pub card : readCard (r .memory) ≡ some (cardAfter c s bytes random)
 
-module _ (st : State) (c : Card) (bytes random area : List ℕ) (limit : ℕ) (t : Typed st) (f : OfBytes (send bytes random area limit))
+module _ (st : Situation) (c : Card) (bytes random area : List ℕ) (limit : ℕ) (t : Typed st) (f : OfBytes (send bytes random area limit))
     (e : readCard (st .memory) ≡ some c) (a : 32 ≤ length area) (b : length random ≡ 8) where
   abbrev x : Call
   x = send bytes random area limit
 
-  pub no-reason : NoReason (reasons x st)
-  unfolding NoReason reasons awaits
-  no-reason =
-      let n = sound (st .memory) c (reads (st .memory) c e) .size in
-      (λ w. w n, (λ w. omega arith, (λ w. w b, (λ w. Option·some-ne-none c (sym e ∙ w), (λ w. false≢true w, tt)))))
+  -- no reason holds: 7 or 0 is due
+  pub no-reason : (n : ℕ) → Ends x st n → Due x st n
+  unfolding Due reasons awaits
+  no-reason n z =
+      let size = sound (st .memory) c (reads (st .memory) c e) .size in
+      passes (λ w. w size)
+      (passes (λ w. omega arith) (passes (λ w. w b) (passes (λ w. Option·some-ne-none c (sym e ∙ w)) (passes (λ w. false≢true w) z))))
 
   -- at every limit that reaches the last store
   pub demand-two-uncut : storesOf x st ≤ limit → Meets c (st .session) bytes random area (run x st)
@@ -55,7 +58,7 @@ module _ (st : State) (c : Card) (bytes random area : List ℕ) (limit : ℕ) (t
   demand-two-uncut k =
       let m = st .memory in
       let s = st .session in
-      let z = exactly x st t f 0 (finished no-reason k) in
+      let z = exactly x st t f 0 (no-reason 0 (finished k)) in
       let r = responds st c bytes random area limit t f e z in
       let i = sound-of m c s bytes random (t .memory) e (t .session) (f .0) (f .1) b in
       let l = command-left m c s bytes random area limit e (λ n. i) in
@@ -71,6 +74,9 @@ module _ (st : State) (c : Card) (bytes random area : List ℕ) (limit : ℕ) (t
         card = l .1 ∙ ap some (l .2 .finished z);
       }
 
-  -- and so at limit 65,535 or above
-  pub demand-two : 65535 ≤ limit → Meets c (st .session) bytes random area (run x st)
-  demand-two k = demand-two-uncut (let n = few-stores x st t f in omega arith)
+-- DEMAND 2: so at limit 65,535 or above
+pub demand-two : (st : Situation) (c : Card) (bytes random area : List ℕ) (limit : ℕ) → (typed : Typed st) → (given : OfBytes (send bytes random area limit))
+    → (reads : readCard (st .memory) ≡ some c) → (room : 32 ≤ length area) → (drawn : length random ≡ 8) → (uncut : 65535 ≤ limit)
+    → Meets c (st .session) bytes random area (run (send bytes random area limit) st)
+demand-two st c bytes random area limit t f e a b k =
+    demand-two-uncut st c bytes random area limit t f e a b (let n = few-stores (send bytes random area limit) st t f in omega arith)

@@ -14,7 +14,7 @@ use Rattle.card.specs.Card.{Card, freshHead, fresh}
 use Rattle.card.specs.Reading.{readCard}
 use Rattle.card.proofs.AsInstalled.{AsInstalled, as-installed}
 use Rattle.purse_spec.specs.Installation.{fixedOf, keysOf}
-use Rattle.purse_spec.specs.History.{install, State, run}
+use Rattle.purse_spec.specs.History.{install, Situation, run}
 use Rattle.purse_spec.specs.Reasons.{InRange}
 use Rattle.purse_spec.proofs.Installing.{in-range, aid-length, log-size, most-tries, data-length, installation-finishes, installation-done}
 
@@ -92,7 +92,7 @@ module _ (d : List ℕ) (g : InRange d) where
 -- ---- the law
 
 -- data in range, on any memory of 4,096 bytes and at limit 65,535 or above: done, and memory reads as the fresh card
-pub installs : (st : State) (d : List ℕ) (limit : ℕ) → AreBytes d → (g : InRange d) → length (st .memory) ≡ 4096 → 65535 ≤ limit
+pub installs : (st : Situation) (d : List ℕ) (limit : ℕ) → AreBytes d → (g : InRange d) → length (st .memory) ≡ 4096 → 65535 ≤ limit
     → (run (install d limit) st .answer ≡ 0) × (c : Card) × (readCard (run (install d limit) st .memory) ≡ some c) × Fresh g c
 unfolding run
 installs st d limit f g e k =

@@ -10,18 +10,18 @@ use Rattle.card.specs.Card.{Card}
 use Rattle.card.specs.Reading.{readCard}
 use Rattle.commands_spec.specs.Respond.{respond}
 use Rattle.purse_spec.specs.Calls.{Run}
-use Rattle.purse_spec.specs.History.{send, State, OfBytes, run}
-use Rattle.purse_spec.proofs.Sound.{Typed}
+use Rattle.purse_spec.specs.History.{send, Situation, OfBytes, run}
+use Rattle.purse_spec.proofs.Promised.{Typed}
 use Rattle.purse_spec.proofs.DemandTwo.{demand-two}
 
 -- a call that is done, with 9000 as the last two bytes of its response
-pub record Granted (r : Run) : Type 0 where
+pub record GrantedCall (r : Run) : Type 0 where
   pub answer : r .answer ≡ 0
   pub status : 256 * byteAt (r .response) (r .length - 2) + byteAt (r .response) (r .length - 1) ≡ 0x9000
 
-pub granted-on-memory : (st : State) (c : Card) (bytes random area : List ℕ) (limit : ℕ) → Typed st → OfBytes (send bytes random area limit)
+pub granted-on-memory : (st : Situation) (c : Card) (bytes random area : List ℕ) (limit : ℕ) → Typed st → OfBytes (send bytes random area limit)
     → readCard (st .memory) ≡ some c → 32 ≤ length area → length random ≡ 8 → 65535 ≤ limit → respond c (st .session) bytes random .status ≡ 0x9000
-    → Granted (run (send bytes random area limit) st)
+    → GrantedCall (run (send bytes random area limit) st)
 granted-on-memory st c bytes random area limit t f e a b k w =
     let m = demand-two st c bytes random area limit t f e a b k in
     record { answer = m .answer; status = m .status ∙ w }

@@ -34,12 +34,12 @@ use Rattle.commands_spec.proofs.Sizes.{Sound}
 use Rattle.commands_spec.proofs.Proper.{each-proper}
 use Rattle.purse_spec.specs.Calls.{Run, awaits, performed}
 use Rattle.purse_spec.specs.Commands.{leastArea, plans, outcomePlan, outcomeRun, onCard, command}
-use Rattle.purse_spec.specs.History.{send, State, run}
+use Rattle.purse_spec.specs.History.{send, Situation, run}
 use Rattle.purse_spec.specs.Ledger.{statusWord}
 use Rattle.purse_spec.proofs.Rows.{EachProper, first-proper, others-proper, plans-cut}
 use Rattle.purse_spec.proofs.Names.{verify-named}
 use Rattle.purse_spec.proofs.Performing.{Fewer, performed-done}
-use Rattle.purse_spec.proofs.Sound.{Typed, sound-of}
+use Rattle.purse_spec.proofs.Promised.{Typed, sound-of}
 use Rattle.purse_spec.proofs.Responses.{performed-responds}
 use Rattle.purse_spec.proofs.Performed.{Follows, performed-follows}
 
@@ -182,7 +182,7 @@ pick-pair m false x f g h = h refl
 
 -- two commands of one length that agree in their first five bytes, 94 20 .., on the same memory and in the same session, with the same
 -- random bytes, response area and limit
-pub no-free-guess : (st : State) (a b random area : List ℕ) (limit : ℕ) → Typed st → AreBytes a → AreBytes b → AreBytes random
+pub no-free-guess : (st : Situation) (a b random area : List ℕ) (limit : ℕ) → Typed st → AreBytes a → AreBytes b → AreBytes random
     → byteAt a 0 ≡ 0x94 → byteAt a 1 ≡ 0x20 → length a ≡ length b → ((k : ℕ) → k < 5 → byteAt a k ≡ byteAt b k)
     → Guess (st .memory) (run (send a random area limit) st) (run (send b random area limit) st)
 unfolding run command onCard

@@ -58,9 +58,9 @@ use Rattle.commands_spec.proofs.Queries.{select-granted}
 use Rattle.commands_spec.proofs.Facts.{facts}
 use Rattle.commands_spec.proofs.Readers.{isReader, readers-change-nothing}
 use Rattle.commands_spec.proofs.Sending.{InChannel}
-use Rattle.commands_spec.specs.Outcomes.{after as changed}
-use Rattle.card.specs.declared.head.State.{State as Counters}
-use Rattle.purse_spec.specs.History.{install, State, OfBytes, AllOfBytes, run, isInstall, isStart, next, after, Admissible, IsHistory}
+use Rattle.commands_spec.specs.Outcomes.{after}
+use Rattle.card.specs.declared.head.State.{State}
+use Rattle.purse_spec.specs.History.{install, Situation, OfBytes, AllOfBytes, run, isInstall, isStart, next, afterCalls, Admissible, IsHistory}
 use Rattle.purse_spec.specs.Reasons.{InRange}
 use Rattle.purse_spec.proofs.Typed.{Typed, typed-next}
 use Rattle.purse_spec.proofs.Answers.{answers-keep, hands-unselected}
@@ -135,7 +135,7 @@ unfolding below
 given-bytes = tested given refl
 
 -- a walk that stands where something holds of the card and the session
-record Some (first : State) (P : Card → Session → Type 0) : Type 0 where
+record Some (first : Situation) (P : Card → Session → Type 0) : Type 0 where
   card : Card
   session : Session
   reached : Reached first card session
@@ -152,7 +152,7 @@ record Stage (personalized debit credit : Bool) (c : Card) : Type 0 where
 -- ---- one command more
 
 -- at limit 65,535, with eight zeros for the random bytes: what holds of the card and the session behind it
-step : {first : State} {P : Card → Session → Type 0} (Q : Card → Session → Type 0) (bytes : Card → Session → List ℕ) → Some first P
+step : {first : Situation} {P : Card → Session → Type 0} (Q : Card → Session → Type 0) (bytes : Card → Session → List ℕ) → Some first P
     → ((c : Card) (s : Session) → P c s → Proper c → Sized s → AreBytes (bytes c s))
     → ((c : Card) (s : Session) → P c s → Proper c → Sized s → Sized (respond c s (bytes c s) (zeros 8) .session)
     → Q (cardAfter c s (bytes c s) (zeros 8)) (respond c s (bytes c s) (zeros 8) .session))
@@ -173,15 +173,15 @@ step Q bytes w f g =
 
 -- a command that reads leaves the card
 reads-only : (c : Card) (s : Session) (command random : List ℕ) → isReader (named command) ≡ true → cardAfter c s command random ≡ c
-unfolding cardAfter changed
+unfolding cardAfter after
 reads-only c s command random e = rw (readers-change-nothing c s command random e)
 
 -- ---- the installation, and a second one
 
-installed : (st : State) → Typed st → length (st .memory) ≡ 4096
+first-installation : (st : Situation) → Typed st → length (st .memory) ≡ 4096
     → (run (install given 65535) st .answer ≡ 0) × (c : Card) × At (next (install given 65535) st) c unselected × Stage false false false c
 unfolding next isInstall OfBytes
-installed st t e =
+first-installation st t e =
     let i = installs st given 65535 given-bytes given-range e (omega arith) in
     let f = i .3 .starts in (
       i .0,
@@ -196,10 +196,10 @@ installed st t e =
     )
 
 -- behind one installation
-begun : (first : State) → Typed first → length (first .memory) ≡ 4096 → Some first (λ c s. Stage false false false c × (s ≡ unselected))
-unfolding IsHistory AllOfBytes Admissible OfBytes isInstall after
+begun : (first : Situation) → Typed first → length (first .memory) ≡ 4096 → Some first (λ c s. Stage false false false c × (s ≡ unselected))
+unfolding IsHistory AllOfBytes Admissible OfBytes isInstall afterCalls
 begun first t e =
-    let i = installed first t e in
+    let i = first-installation first t e in
     record {
       card = i .1;
       session = unselected;
@@ -234,7 +234,7 @@ signed-readers : (key from : List ℕ) (p1 p2 : ℕ) (body : List ℕ)
 unfolding named instruction of84 of94 isReader signedBy signedText
 signed-readers key from p1 p2 body = (refl, refl)
 
-module _ {first : State} {p d k : Bool} where
+module _ {first : Situation} {p d k : Bool} where
   chosen : Some first (λ c s. Stage p d k c) → Some first (λ c s. Stage p d k c × (s .selected ≡ true))
   chosen w =
       step (λ c s. Stage p d k c × (s .selected ≡ true)) (λ c s. plainCommand 0x00 0xA4 0x04 0x00 (take (c .head .fixed .aidlen) (c .head .fixed .aid)) []) w
@@ -310,7 +310,7 @@ unfolding named instruction of84 signedCommand signedBy signedText
 put-key-named s n body = refl
 
 -- PUT KEY of one set
-keyed : {first : State} {p d k : Bool} (n : ℕ) (set : Set) (old : Card → KeySet) → n < 256 → ((c : Card) → Numbered (c .head) (old c) n set)
+keyed : {first : Situation} {p d k : Bool} (n : ℕ) (set : Set) (old : Card → KeySet) → n < 256 → ((c : Card) → Numbered (c .head) (old c) n set)
     → Some first (λ c s. Stage p d k c × InChannel s (Rmac Admin)) → Some first (λ c s. Stage p (pick (eqb n 0x01) true d) (pick (eqb n 0x02) true k) c × InChannel s (Rmac Admin))
 keyed {first} {p} {d} {k} n set old below-256 m w =
     step (λ c s. Stage p (pick (eqb n 0x01) true d) (pick (eqb n 0x02) true k) c × InChannel s (Rmac Admin)) (λ c s. signedCommand s 0x84 0xD8 0x00 n (keysSent c) []) w
@@ -322,8 +322,8 @@ keyed {first} {p} {d} {k} n set old below-256 m w =
         personal = ap (λ (x : Parameters). x .personalized) (r .parameters) ∙ h .0 .personal;
         first = ap (λ (x : KeySet). x .defined) (r .first) ∙ defined-if (eqb n 0x01) (c .head .purse .debit) ∙ ap (pick (eqb n 0x01) true) (h .0 .first);
         second = ap (λ (x : KeySet). x .defined) (r .second) ∙ defined-if (eqb n 0x02) (c .head .purse .credit) ∙ ap (pick (eqb n 0x02) true) (h .0 .second);
-        balance = ap (λ (x : Counters). x .balance) (r .state) ∙ h .0 .balance;
-        number = ap (λ (x : Counters). x .number) (r .state) ∙ h .0 .number;
+        balance = ap (λ (x : State). x .balance) (r .state) ∙ h .0 .balance;
+        number = ap (λ (x : State). x .number) (r .state) ∙ h .0 .number;
       },
       still-open c s _ (zeros 8) PutKey (Rmac Admin) (put-key-named s n (keysSent c)) g (h .1) y,
     ))
@@ -374,7 +374,7 @@ store-bytes s z =
     signed-bytes (s .channel .mac) (s .channel .cmac) 0x84 0xE2 0x80 0x00 (flat tlvs) (z .channel .cmac .bytes) (omega arith) (omega arith) (omega arith) (omega arith) (omega arith)
     (tested (flat tlvs) refl)
 
-stored : {first : State} → Some first (λ c s. Stage false true true c × InChannel s (Rmac Admin)) → Some first (λ c s. Personalized c × InChannel s (Rmac Admin))
+stored : {first : Situation} → Some first (λ c s. Stage false true true c × InChannel s (Rmac Admin)) → Some first (λ c s. Personalized c × InChannel s (Rmac Admin))
 unfolding datum
 stored w =
     step (λ c s. Personalized c × InChannel s (Rmac Admin)) (λ c s. storing s tlvs []) w (λ c s h q z. store-bytes s z)
@@ -405,7 +405,7 @@ stored w =
 
 -- ---- a personalized card in an open channel
 
-ready : (first : State) → Typed first → length (first .memory) ≡ 4096 → Some first (λ c s. Personalized c × InChannel s (Rmac Admin))
+ready : (first : Situation) → Typed first → length (first .memory) ≡ 4096 → Some first (λ c s. Personalized c × InChannel s (Rmac Admin))
 ready first t e =
     let b = begun first t e in
     let fresh : Some first (λ c s. Stage false false false c) = record { card = b .card; session = b .session; reached = b .reached; holds = b .holds .0 } in
@@ -452,7 +452,7 @@ completion-named : (s : Session) → (byteAt (completion s (zeros 16) []) 0 ≡ 
 unfolding signedCommand signedBy signedText
 completion-named s = (refl, refl)
 
-pub cut-complete : (first : State) → Typed first → length (first .memory) ≡ 4096 → CutIn 0x94 0x46 first
+pub cut-complete : (first : Situation) → Typed first → length (first .memory) ≡ 4096 → CutIn 0x94 0x46 first
 cut-complete first t e =
     let w = ready first t e in
     let c = w .card in
@@ -505,7 +505,7 @@ pin-bytes c s z =
     signed-bytes (s .channel .mac) (s .channel .cmac) 0x84 0x24 0x00 0x00 (ecbText encipher (c .head .shared .admin .dek) (blockOf digits)) (z .channel .cmac .bytes) (omega arith) (omega arith)
     (omega arith) (omega arith) (omega arith) (sent-bytes (c .head .shared .admin .dek) (blockOf digits) (b .each))
 
-pinned : {first : State} → Some first (λ c s. Personalized c × InChannel s (Rmac Admin)) → Some first (λ c s. Pinned c × InChannel s (Rmac Admin))
+pinned : {first : Situation} → Some first (λ c s. Personalized c × InChannel s (Rmac Admin)) → Some first (λ c s. Pinned c × InChannel s (Rmac Admin))
 unfolding fixedTests triesLeft pinSet
 pinned w =
     step (λ c s. Pinned c × InChannel s (Rmac Admin)) (λ c s. signedCommand s 0x84 0x24 0x00 0x00 (ecbText encipher (c .head .shared .admin .dek) (blockOf digits)) []) w
@@ -539,7 +539,7 @@ guess-wrong s e =
     let n : _≡_ {A = ℕ} 0 0x24 = ap (λ (l : List ℕ). byteAt l 0) z in
     omega arith
 
-pub cut-verify : (first : State) → Typed first → length (first .memory) ≡ 4096 → CutIn 0x94 0x20 first
+pub cut-verify : (first : Situation) → Typed first → length (first .memory) ≡ 4096 → CutIn 0x94 0x20 first
 unfolding triesLeft
 cut-verify first t e =
     let w = pinned (ready first t e) in
@@ -554,20 +554,20 @@ cut-verify first t e =
 
 -- ---- two installations
 
-pub two-installations : (first : State) → Typed first → length (first .memory) ≡ 4096
+pub two-installations : (first : Situation) → Typed first → length (first .memory) ≡ 4096
     → AllOfBytes (install given 65535 ∷ install given 65535 ∷ []) × IsHistory (install given 65535 ∷ install given 65535 ∷ []) first
 unfolding AllOfBytes IsHistory Admissible OfBytes isInstall isStart
 two-installations first t e =
-    let i = installed first t e in
-    let j = installed (next (install given 65535) first) (i .2 .typed) (unfold next in (answers-keep (install given 65535) first .memory ∙ e)) in
+    let i = first-installation first t e in
+    let j = first-installation (next (install given 65535) first) (i .2 .typed) (unfold next in (answers-keep (install given 65535) first .memory ∙ e)) in
     ((given-bytes, (given-bytes, tt)), (refl, i .0, (λ q. absurd (false≢true (sym (i .2 .whole) ∙ q)), λ q k. omega (arith, j .0), tt)))
 
 -- ---- each shape of demand 3
 
-pub record Shapes (first : State) : Type 0 where
+pub record Shapes (first : Situation) : Type 0 where
   pub twice : IsHistory (install given 65535 ∷ install given 65535 ∷ []) first
   pub complete : CutIn 0x94 0x46 first
   pub verify : CutIn 0x94 0x20 first
 
-pub histories-exist : (first : State) → Typed first → length (first .memory) ≡ 4096 → Shapes first
+pub histories-exist : (first : Situation) → Typed first → length (first .memory) ≡ 4096 → Shapes first
 histories-exist first t e = record { twice = two-installations first t e .1; complete = cut-complete first t e; verify = cut-verify first t e }

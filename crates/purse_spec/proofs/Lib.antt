@@ -8,10 +8,10 @@ pub mod Accounts
 pub mod Rows
 pub mod Names
 pub mod Performing
-pub mod Sound
+pub mod Promised
 pub mod Counts
 pub mod Answered
-pub mod Cut
+pub mod Tearing
 pub mod Responses
 pub mod DemandTwo
 pub mod Awaiting

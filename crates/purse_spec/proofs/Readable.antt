@@ -11,12 +11,12 @@ use Rattle.session.specs.declared.Session.{Session}
 use Rattle.session.specs.Session.{unselected}
 use Rattle.purse_spec.specs.Calls.{Run, refusal, performed}
 use Rattle.purse_spec.specs.Installation.{installation}
-use Rattle.purse_spec.specs.History.{Call, install, start, send, State, OfBytes, run, isInstall}
+use Rattle.purse_spec.specs.History.{Call, install, start, send, Situation, OfBytes, run, isInstall}
 use Rattle.purse_spec.proofs.Performed.{by-limit}
 use Rattle.purse_spec.proofs.Runs.{installation-runs}
 use Rattle.purse_spec.proofs.Installing.{installed-reads}
-use Rattle.purse_spec.proofs.Sound.{Typed, sound-of}
-use Rattle.purse_spec.proofs.Cut.{command-left}
+use Rattle.purse_spec.proofs.Promised.{Typed, sound-of}
+use Rattle.purse_spec.proofs.Tearing.{command-left}
 use Rattle.purse_spec.proofs.Starting.{startup-keeps}
 
 refusal-readable : (n : ℕ) (s : Session) (m area : List ℕ) → readable m ≡ true → readable (refusal n s m area .memory) ≡ true
@@ -34,12 +34,12 @@ installation-readable m d limit f q =
     (λ l n. read-readable _ _ (installed-reads m d limit f e t l)))
 
 -- "A finished start-up keeps the reading", as every start-up does
-pub startup-keeps-reading : (limit : ℕ) (st : State) → readCard (run (start limit) st .memory) ≡ readCard (st .memory)
+pub startup-keeps-reading : (limit : ℕ) (st : Situation) → readCard (run (start limit) st .memory) ≡ readCard (st .memory)
 unfolding run
 startup-keeps-reading limit st = ap readCard (startup-keeps (st .memory) limit)
 
 -- any call on readable memory, finished or cut, leaves it readable, a cut installation apart
-pub readable-stays : (x : Call) (st : State) → Typed st → OfBytes x → readable (st .memory) ≡ true → (isInstall x ≡ true → run x st .answer ≡ 7 → ⊥)
+pub readable-stays : (x : Call) (st : Situation) → Typed st → OfBytes x → readable (st .memory) ≡ true → (isInstall x ≡ true → run x st .answer ≡ 7 → ⊥)
     → readable (run x st .memory) ≡ true
 unfolding run OfBytes isInstall
 readable-stays (install d limit) st t f q n = installation-readable (st .memory) d limit f q (n refl)

@@ -18,7 +18,7 @@ use Rattle.commands_spec.proofs.Refusals.{refusal-changes-nothing}
 use Rattle.commands_spec.proofs.Readers.{isReader, readers-change-nothing}
 use Rattle.purse_spec.specs.Calls.{Run, refusal, performed}
 use Rattle.purse_spec.specs.Commands.{plans, outcomePlan, outcomeRun}
-use Rattle.purse_spec.specs.History.{send, State, run}
+use Rattle.purse_spec.specs.History.{send, Situation, run}
 use Rattle.purse_spec.proofs.Performed.{leaves-nothing}
 use Rattle.purse_spec.proofs.Runs.{command-on}
 
@@ -27,25 +27,27 @@ pub record NoStore (m : List ℕ) (r : Run) : Type 0 where
   pub count : r .count ≡ 0
   pub memory : r .memory ≡ m
 
-module _ (st : State) (c : Card) (bytes random area : List ℕ) (limit : ℕ) (e : readCard (st .memory) ≡ some c) where
-  abbrev O : Outcome
-  O = respond c (st .session) bytes random
+performed-none : (c : Card) (o : Outcome) (m area : List ℕ) (limit : ℕ) → changes c o ≡ [] → NoStore m (outcomeRun c o m area limit)
+unfolding performed outcomePlan plans
+performed-none c o m area limit h = rw (h, le-ltb limit 0 (omega arith)) (record { count = refl; memory = leaves-nothing limit m })
 
-  performed-none : changes c O ≡ [] → NoStore (st .memory) (outcomeRun c O (st .memory) area limit)
-  unfolding performed outcomePlan plans
-  performed-none h = rw (h, le-ltb limit 0 (omega arith)) (record { count = refl; memory = leaves-nothing limit (st .memory) })
+none-stored : (st : Situation) (c : Card) (bytes random area : List ℕ) (limit : ℕ) → readCard (st .memory) ≡ some c
+    → changes c (respond c (st .session) bytes random) ≡ [] → NoStore (st .memory) (run (send bytes random area limit) st)
+unfolding run refusal
+none-stored st c bytes random area limit e h =
+    command-on (st .memory) (λ (r : ℕ → Run). NoStore (st .memory) (r limit)) (st .session) bytes random area c e
+    (λ n k l. record { count = refl; memory = refl }) (λ t u. performed-none c _ (st .memory) area limit h)
 
-  none-stored : changes c O ≡ [] → NoStore (st .memory) (run (send bytes random area limit) st)
-  unfolding run refusal
-  none-stored h =
-      command-on (st .memory) (λ (r : ℕ → Run). NoStore (st .memory) (r limit)) (st .session) bytes random area c e
-      (λ n k l. record { count = refl; memory = refl }) (λ t u. performed-none h)
+-- a refusal, a wrong PIN's 6300 apart
+pub refusal-stores-nothing : (st : Situation) (c : Card) (bytes random area : List ℕ) (limit : ℕ) → (reads : readCard (st .memory) ≡ some c)
+    → (refused : respond c (st .session) bytes random .status ≡ 0x9000 → ⊥)
+    → (no-wrong-pin : named bytes ≡ IsPlain VerifyPin → respond c (st .session) bytes random .status ≡ 0x6300 → ⊥)
+    → NoStore (st .memory) (run (send bytes random area limit) st)
+refusal-stores-nothing st c bytes random area limit e x y =
+    none-stored st c bytes random area limit e (refusal-changes-nothing c (st .session) bytes random x y)
 
-  -- a refusal, a wrong PIN's 6300 apart
-  pub refusal-stores-nothing : (O .status ≡ 0x9000 → ⊥) → (named bytes ≡ IsPlain VerifyPin → O .status ≡ 0x6300 → ⊥)
-      → NoStore (st .memory) (run (send bytes random area limit) st)
-  refusal-stores-nothing x y = none-stored (refusal-changes-nothing c (st .session) bytes random x y)
-
-  -- SELECT, INITIALIZE UPDATE, EXTERNAL AUTHENTICATE, INITIALIZE TRANSACTION, GET DATA and READ RECORD
-  pub readers-store-nothing : isReader (named bytes) ≡ true → NoStore (st .memory) (run (send bytes random area limit) st)
-  readers-store-nothing x = none-stored (readers-change-nothing c (st .session) bytes random x)
+-- SELECT, INITIALIZE UPDATE, EXTERNAL AUTHENTICATE, INITIALIZE TRANSACTION, GET DATA and READ RECORD
+pub readers-store-nothing : (st : Situation) (c : Card) (bytes random area : List ℕ) (limit : ℕ) → (reads : readCard (st .memory) ≡ some c)
+    → (reader : isReader (named bytes) ≡ true) → NoStore (st .memory) (run (send bytes random area limit) st)
+readers-store-nothing st c bytes random area limit e x =
+    none-stored st c bytes random area limit e (readers-change-nothing c (st .session) bytes random x)

@@ -21,11 +21,11 @@ use Rattle.commands_spec.proofs.Words.{status-listed}
 use Rattle.commands_spec.proofs.Sizes.{Sound, reply-short}
 use Rattle.purse_spec.specs.Calls.{Run, refusal, performed}
 use Rattle.purse_spec.specs.Commands.{leastArea, outcomePlan, outcomeRun}
-use Rattle.purse_spec.specs.History.{send, State, OfBytes, run}
+use Rattle.purse_spec.specs.History.{send, Situation, OfBytes, run}
 use Rattle.purse_spec.specs.Ledger.{statusWord}
 use Rattle.purse_spec.proofs.Performed.{by-limit}
 use Rattle.purse_spec.proofs.Runs.{command-on}
-use Rattle.purse_spec.proofs.Sound.{Typed, sound-of}
+use Rattle.purse_spec.proofs.Promised.{Typed, sound-of}
 
 -- an answer that ends in a word, laid over the front of an area that it fits
 pub last-word : (answer area : List ℕ) (w : ℕ) → 2 ≤ length answer → length answer ≤ length area → drop (length answer - 2) answer ≡ word w
@@ -67,7 +67,7 @@ performed-responds m c s bytes random area limit a i =
     })
 
 -- every finished command
-pub responds : (st : State) (c : Card) (bytes random area : List ℕ) (limit : ℕ) → Typed st → OfBytes (send bytes random area limit) → readCard (st .memory) ≡ some c
+pub responds : (st : Situation) (c : Card) (bytes random area : List ℕ) (limit : ℕ) → Typed st → OfBytes (send bytes random area limit) → readCard (st .memory) ≡ some c
     → run (send bytes random area limit) st .answer ≡ 0 → Responds (respond c (st .session) bytes random) area (run (send bytes random area limit) st)
 unfolding run OfBytes refusal
 responds st c bytes random area limit t f e =

@@ -84,20 +84,20 @@ module _ (m : List ℕ) (P : (ℕ → Run) → Type 0) where
       go e a r (some c) q = pick-runs P (awaits m) _ _ (λ w. five c a r q w) (λ w. rest c a r q w)
 
 -- a refusal by any of the answers 1 to 6
-abbrev pub Refused : ((ℕ → Run) → Type 0) → Session → List ℕ → List ℕ → Type 0
-Refused P s m area = (n : ℕ) → 1 ≤ n → n ≤ 6 → P (λ L. refusal n s m area)
+abbrev pub AnyRefusal : ((ℕ → Run) → Type 0) → Session → List ℕ → List ℕ → Type 0
+AnyRefusal P s m area = (n : ℕ) → 1 ≤ n → n ≤ 6 → P (λ L. refusal n s m area)
 
 -- the same where the reason of a refusal doesn't count
 module _ (m : List ℕ) (P : (ℕ → Run) → Type 0) where
-  pub installation-runs : (d : List ℕ) → Refused P unselected m [] → (length m ≡ memorySize → dataOk d ≡ true → P (λ L. installed m d L))
+  pub installation-runs : (d : List ℕ) → AnyRefusal P unselected m [] → (length m ≡ memorySize → dataOk d ≡ true → P (λ L. installed m d L))
       → P (λ L. installation m d L)
   installation-runs d out rest = installation-holds m P d (λ e. out 1 (omega arith) (omega arith)) (λ e t. out 6 (omega arith) (omega arith)) rest
 
-  pub startup-runs : Refused P unselected m [] → (readable m ≡ true → P (λ L. started m L)) → P (λ L. startup m L)
+  pub startup-runs : AnyRefusal P unselected m [] → (readable m ≡ true → P (λ L. started m L)) → P (λ L. startup m L)
   startup-runs out rest = startup-holds m P (λ e. out 1 (omega arith) (omega arith)) (λ e t. out 2 (omega arith) (omega arith)) (λ e t. rest t)
 
   module _ (s : Session) (bytes random area : List ℕ) where
-    pub command-runs : Refused P s m area
+    pub command-runs : AnyRefusal P s m area
         → ((c : Card) → leastArea ≤ length area → length random ≡ 8 → readCard m ≡ some c → P (λ L. outcomeRun c (respond c s bytes random) m area L))
         → P (λ L. command m s bytes random area L)
     command-runs out rest =
@@ -106,7 +106,7 @@ module _ (m : List ℕ) (P : (ℕ → Run) → Type 0) where
         (λ c t u v w. rest c t u v)
 
     -- on a card in hand
-    pub command-on : (c : Card) → readCard m ≡ some c → Refused P s m area
+    pub command-on : (c : Card) → readCard m ≡ some c → AnyRefusal P s m area
         → (leastArea ≤ length area → length random ≡ 8 → P (λ L. outcomeRun c (respond c s bytes random) m area L))
         → P (λ L. command m s bytes random area L)
     command-on c e out rest =

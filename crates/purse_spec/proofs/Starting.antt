@@ -14,7 +14,7 @@ use Rattle.card.proofs.Cards.{readable-read}
 use Rattle.session.specs.Session.{unselected}
 use Rattle.purse_spec.specs.Calls.{Run, refusal}
 use Rattle.purse_spec.specs.Startup.{startup}
-use Rattle.purse_spec.specs.History.{Call, install, start, send, State, run, isStart, next, after, OnlyStarts}
+use Rattle.purse_spec.specs.History.{Call, install, start, send, Situation, run, isStart, next, afterCalls, OnlyStarts}
 use Rattle.purse_spec.proofs.Performed.{leaves-nothing, performed-follows}
 use Rattle.purse_spec.proofs.Runs.{startup-holds, startup-runs}
 
@@ -36,14 +36,14 @@ startup-finishes m limit t =
 
 -- ---- in a list
 
-start-keeps : (x : Call) (st : State) → isStart x ≡ true → next x st .memory ≡ st .memory
+start-keeps : (x : Call) (st : Situation) → isStart x ≡ true → next x st .memory ≡ st .memory
 unfolding next run isStart
 start-keeps (install d limit) st h = absurd (false≢true h)
 start-keeps (start limit) st h = startup-keeps (st .memory) limit
 start-keeps (send bytes random area limit) st h = absurd (false≢true h)
 
 -- start-ups, cut or not, as many as one likes, keep memory
-pub starts-keep : (xs : List Call) (st : State) → OnlyStarts xs → after xs st .memory ≡ st .memory
-unfolding after OnlyStarts
+pub starts-keep : (xs : List Call) (st : Situation) → OnlyStarts xs → afterCalls xs st .memory ≡ st .memory
+unfolding afterCalls OnlyStarts
 starts-keep [] st h = refl
 starts-keep (x ∷ xs) st h = starts-keep xs (next x st) (h .1) ∙ start-keeps x st (h .0)

@@ -1,4 +1,4 @@
--- What the types of the code's areas and values promise of a state, which every call keeps. Assumes nothing.
+-- What the types of the code's areas and values promise of a situation, which every call keeps. Assumes nothing.
 use mathlib.Core.List.{List, [], _∷_}
 use Prim.Native.Nat.{ℕ}
 use lib.Dec.{eqb}
@@ -13,8 +13,8 @@ use Rattle.purse_spec.specs.Calls.{Run, refusal, performed}
 use Rattle.purse_spec.specs.Installation.{fixedOf, keysOf, installation}
 use Rattle.purse_spec.specs.Startup.{startup}
 use Rattle.purse_spec.specs.Commands.{command}
-use Rattle.purse_spec.specs.History.{Call, install, start, send, State, OfBytes, AllOfBytes, run, next, after}
-pub use Rattle.purse_spec.proofs.Sound.{Typed, sound-of}
+use Rattle.purse_spec.specs.History.{Call, install, start, send, Situation, OfBytes, AllOfBytes, run, next, afterCalls}
+pub use Rattle.purse_spec.proofs.Promised.{Typed, sound-of}
 use Rattle.purse_spec.proofs.Performed.{leaves-nothing, by-limit}
 use Rattle.purse_spec.proofs.Runs.{installation-runs, startup-runs, command-runs}
 use Rattle.purse_spec.proofs.Installing.{installable}
@@ -53,21 +53,21 @@ command-typed m s bytes random area limit f z a b =
     let i = sound-of m c s bytes random f e z a b u in
     performed-typed _ limit m _ _ area (performed-bytes m c s bytes random e i limit f) (session-sized c s bytes random i))
 
-run-typed : (x : Call) (st : State) → Typed st → OfBytes x → TypedRun (run x st)
+run-typed : (x : Call) (st : Situation) → Typed st → OfBytes x → TypedRun (run x st)
 unfolding run OfBytes
 run-typed (install d limit) st t f = installation-typed (st .memory) d limit (t .memory) f
 run-typed (start limit) st t f = startup-typed (st .memory) limit (t .memory)
 run-typed (send bytes random area limit) st t f = command-typed (st .memory) (st .session) bytes random area limit (t .memory) (t .session) (f .0) (f .1)
 
 -- every call keeps it
-pub typed-next : (x : Call) (st : State) → Typed st → OfBytes x → Typed (next x st)
+pub typed-next : (x : Call) (st : Situation) → Typed st → OfBytes x → Typed (next x st)
 unfolding next
 typed-next x st t f =
     let r = run-typed x st t f in
     record { memory = r .memory; session = pick-holds Sized (eqb (run x st .answer) 0) _ _ (λ e. r .session) (λ e. t .session) }
 
 -- and every list of calls
-pub typed-after : (xs : List Call) (st : State) → Typed st → AllOfBytes xs → Typed (after xs st)
-unfolding after AllOfBytes
+pub typed-after : (xs : List Call) (st : Situation) → Typed st → AllOfBytes xs → Typed (afterCalls xs st)
+unfolding afterCalls AllOfBytes
 typed-after [] st t f = t
 typed-after (x ∷ xs) st t f = typed-after xs (next x st) (typed-next x st t (f .0)) (f .1)

@@ -21,7 +21,7 @@ pub data Call : Type 0 where
   send : List ℕ → List ℕ → List ℕ → ℕ → Call
 
 -- memory, the session of the last finished call, and whether a cut awaits a finished start-up
-pub record State : Type 0 where
+pub record Situation : Type 0 where
   pub memory : List ℕ
   pub session : Session
   pub cut : Bool
@@ -44,7 +44,7 @@ AllOfBytes [] = Unit {0}
 AllOfBytes (c ∷ cs) = OfBytes c × AllOfBytes cs
 
 -- what a call gives
-unfoldable pub run : Call → State → Run
+unfoldable pub run : Call → Situation → Run
 run (install d limit) st = installation (st .memory) d limit
 run (start limit) st = startup (st .memory) limit
 run (send bytes random area limit) st = command (st .memory) (st .session) bytes random area limit
@@ -62,7 +62,7 @@ isInstall (start limit) = false
 isInstall (send bytes random area limit) = false
 
 -- after a call: the session is the one handed back where it finished
-unfoldable pub next : Call → State → State
+unfoldable pub next : Call → Situation → Situation
 next c st =
     let r = run c st in
     record {
@@ -72,9 +72,9 @@ next c st =
     }
 
 -- after a list of calls
-unfoldable pub after : List Call → State → State
-after [] st = st
-after (c ∷ cs) st = after cs (next c st)
+unfoldable pub afterCalls : List Call → Situation → Situation
+afterCalls [] st = st
+afterCalls (c ∷ cs) st = afterCalls cs (next c st)
 
 -- start-ups alone
 unfoldable pub OnlyStarts : List Call → Type 0
@@ -82,12 +82,12 @@ OnlyStarts [] = Unit {0}
 OnlyStarts (c ∷ cs) = (isStart c ≡ true) × OnlyStarts cs
 
 -- "Start-ups alone follow each cut until one finishes", "no cut installation"
-unfoldable pub Admissible : List Call → State → Type 0
+unfoldable pub Admissible : List Call → Situation → Type 0
 Admissible [] st = Unit {0}
 Admissible (c ∷ cs) st =
     (st .cut ≡ true → isStart c ≡ true) × (isInstall c ≡ true → run c st .answer ≡ 7 → ⊥) × Admissible cs (next c st)
 
 -- a list of demand 3: it "starts with a finished installation on any memory"
-unfoldable pub IsHistory : List Call → State → Type 0
+unfoldable pub IsHistory : List Call → Situation → Type 0
 IsHistory [] st = ⊥
 IsHistory (c ∷ cs) st = (isInstall c ≡ true) × (run c st .answer ≡ 0) × Admissible cs (next c st)

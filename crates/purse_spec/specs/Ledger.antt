@@ -11,7 +11,7 @@ use Rattle.octets.specs.Words.{wordAt}
 use Rattle.card.specs.Card.{Card}
 use Rattle.card.specs.Reading.{readCard}
 use Rattle.purse_spec.specs.Calls.{Run}
-use Rattle.purse_spec.specs.History.{Call, install, start, send, State, run, next, after, isStart}
+use Rattle.purse_spec.specs.History.{Call, install, start, send, Situation, run, next, afterCalls, isStart}
 
 -- an amount, "a debit's as negative"
 pub record Note : Type 0 where
@@ -64,15 +64,15 @@ numberOf none = none
 numberOf (some c) = some (c .head .state .number)
 
 -- whether it has grown, where there is one before and after
-unfoldable pub grown : Option ℕ → Option ℕ → Bool
-grown (some x) (some y) = ltb x y
-grown (some x) none = false
-grown none y = false
+unfoldable pub hasGrown : Option ℕ → Option ℕ → Bool
+hasGrown (some x) (some y) = ltb x y
+hasGrown (some x) none = false
+hasGrown none y = false
 
 -- a finished command and its status word: "INITIALIZE TRANSACTION with 9000 notes its amount"; "COMPLETE with 9000 .. is completed";
 -- "Other calls drop the note if finished"
-unfoldable pub finished : List ℕ → ℕ → Ledger → Ledger
-finished bytes w b =
+unfoldable pub fedCommand : List ℕ → ℕ → Ledger → Ledger
+fedCommand bytes w b =
     pick (isInitialize bytes && eqb w 0x9000) (noting (some (noteOf bytes)) b)
     (pick (isComplete bytes && eqb w 0x9000) (addedTo (b .note) b)
     (noting none b))
@@ -83,7 +83,7 @@ unfoldable pub fed : Call → Run → Bool → Ledger → Ledger
 fed (install d limit) r grew b = pick (eqb (r .answer) 0) empty b
 fed (start limit) r grew b = pick (eqb (r .answer) 0) (noting none b) b
 fed (send bytes random area limit) r grew b =
-    pick (eqb (r .answer) 0) (finished bytes (statusWord r) b)
+    pick (eqb (r .answer) 0) (fedCommand bytes (statusWord r) b)
     (pick (eqb (r .answer) 7 && isComplete bytes && grew) (addedTo (b .note) b) b)
 
 -- the start-ups that lead a list
@@ -92,11 +92,11 @@ startsOf [] = []
 startsOf (c ∷ cs) = pick (isStart c) (c ∷ startsOf cs) []
 
 -- demand 3: "the transaction number that memory reads after the start-ups directly behind it, if any yet, has grown"
-unfoldable pub grewIn : Call → List Call → State → Bool
+unfoldable pub grewIn : Call → List Call → Situation → Bool
 grewIn c cs st =
-    grown (numberOf (readCard (st .memory))) (numberOf (readCard (after (startsOf cs) (next c st) .memory)))
+    hasGrown (numberOf (readCard (st .memory))) (numberOf (readCard (afterCalls (startsOf cs) (next c st) .memory)))
 
 -- the ledger fed a list of calls, each with what lies behind it
-unfoldable pub kept : List Call → State → Ledger → Ledger
+unfoldable pub kept : List Call → Situation → Ledger → Ledger
 kept [] st b = b
 kept (c ∷ cs) st b = kept cs (next c st) (fed c (run c st) (grewIn c cs st) b)

@@ -1,36 +1,25 @@
 -- Document 01, "What a call can say": the reason of each answer, by lengths and bytes, in the order that decides; and which answer is
 -- due. Assumes nothing.
 use mathlib.Core.Bool.{true}
-use mathlib.Core.List.{List, [], _∷_, _++_}
-use mathlib.Core.Logic.{_⊎_}
+use mathlib.Core.List.{List, _∷_, _++_}
 use mathlib.Core.Option.{none}
 use mathlib.Core.Path.{_≡_}
 use Prim.Native.Nat.{ℕ, _≤_, _<_}
 use lib.ListN.{length}
 use Rattle.card.specs.Reading.{readCard}
+use Rattle.commands_spec.specs.Order.{Rule}
 use Rattle.purse_spec.specs.Calls.{awaits}
-use Rattle.purse_spec.specs.History.{Call, install, start, send, State, limited, run}
+use Rattle.purse_spec.specs.History.{Call, install, start, send, Situation, limited, run}
 
--- ---- reasons in a row
+-- ---- rules in a row, which leave the answer to `rest` where no reason holds
 
--- an answer and its reason
-pub record Rule : Type 1 where
-  pub answer : ℕ
-  pub reason : Type 0
-
--- of these
-abbrev pub rule : ℕ → Type 0 → Rule
-rule n R = record { answer = n; reason = R }
-
--- n is the answer of the first rule whose reason holds
-unfoldable pub First : List Rule → ℕ → Type 0
-First [] n = ⊥
-First (r ∷ rs) n = ((r .reason) × (n ≡ r .answer)) ⊎ ((r .reason → ⊥) × First rs n)
+-- n is the answer of the first reason that holds
+abbrev pub FirstReason : ((ℕ → Type 0) → ℕ → Type 0) → ℕ → Type 0
+FirstReason rules = rules (λ n. ⊥)
 
 -- no reason holds
-unfoldable pub NoReason : List Rule → Type 0
-NoReason [] = Unit {0}
-NoReason (r ∷ rs) = (r .reason → ⊥) × NoReason rs
+abbrev pub NoReason : ((ℕ → Type 0) → ℕ → Type 0) → Type 0
+NoReason rules = (n : ℕ) → FirstReason rules n → ⊥
 
 -- ---- the reasons of the answers 1 to 6
 
@@ -51,12 +40,22 @@ pub record InRange (d : List ℕ) : Type 0 where
 
 -- "Order: 1, 3, 4, 8, 2, 5, 6, as far as a call has the argument", where 8 is the C host's; "Installation ignores what memory held (no 2
 -- or 5); start-up never answers 5"
-unfoldable pub reasons : Call → State → List Rule
-reasons (install d limit) st = rule 1 (length (st .memory) ≡ 4096 → ⊥) ∷ rule 6 (InRange d → ⊥) ∷ []
-reasons (start limit) st = rule 1 (length (st .memory) ≡ 4096 → ⊥) ∷ rule 2 (readCard (st .memory) ≡ none) ∷ []
-reasons (send bytes random area limit) st =
-    rule 1 (length (st .memory) ≡ 4096 → ⊥) ∷ rule 3 (length area < 32) ∷ rule 4 (length random ≡ 8 → ⊥)
-    ∷ rule 2 (readCard (st .memory) ≡ none) ∷ rule 5 (awaits (st .memory) ≡ true) ∷ []
+unfoldable pub reasons : Call → Situation → (ℕ → Type 0) → ℕ → Type 0
+reasons (install d limit) st rest =
+    Rule (length (st .memory) ≡ 4096 → ⊥) 1
+    (Rule (InRange d → ⊥) 6
+    rest)
+reasons (start limit) st rest =
+    Rule (length (st .memory) ≡ 4096 → ⊥) 1
+    (Rule (readCard (st .memory) ≡ none) 2
+    rest)
+reasons (send bytes random area limit) st rest =
+    Rule (length (st .memory) ≡ 4096 → ⊥) 1
+    (Rule (length area < 32) 3
+    (Rule (length random ≡ 8 → ⊥) 4
+    (Rule (readCard (st .memory) ≡ none) 2
+    (Rule (awaits (st .memory) ≡ true) 5
+    rest))))
 
 -- ---- the answer that is due
 
@@ -67,11 +66,14 @@ limitOf (start limit) = limit
 limitOf (send bytes random area limit) = limit
 
 -- the stores that a call reports at limit 65,535, which cuts no run
-unfoldable pub storesOf : Call → State → ℕ
+unfoldable pub storesOf : Call → Situation → ℕ
 storesOf x st = run (limited 65535 x) st .count
 
--- 1 to 6 by the first reason that holds; where none does, "7: cut: limit reached before the last store", else 0
-pub data Due (x : Call) (st : State) : ℕ → Type 0 where
-  refused : {n : ℕ} → First (reasons x st) n → Due x st n
-  cut : NoReason (reasons x st) → limitOf x < storesOf x st → Due x st 7
-  finished : NoReason (reasons x st) → storesOf x st ≤ limitOf x → Due x st 0
+-- where no reason holds: "7: cut: limit reached before the last store", else 0
+pub data Ends (x : Call) (st : Situation) : ℕ → Type 0 where
+  cut : limitOf x < storesOf x st → Ends x st 7
+  finished : storesOf x st ≤ limitOf x → Ends x st 0
+
+-- 1 to 6 by the first reason that holds, then 7 or 0
+unfoldable pub Due : Call → Situation → ℕ → Type 0
+Due x st = reasons x st (Ends x st)

@@ -39,8 +39,8 @@ returns-4 c =
 command-requires : tie.Need-command-requires
 command-requires c κs = search needs
 
-hand-back-requires : tie.Need-hand-back-requires
-hand-back-requires c κs =
+result-requires : tie.Need-result-requires
+result-requires c κs =
     let r = c .before .before .before .before .before in
     let t = r .before .before .before .before in
     let u = t .before .before in
@@ -75,7 +75,7 @@ returns-5 c =
     let u = t .before .before in
     let i = u .before .before in
     command-run _ _ _ _ _ _ _ (u .unpack .ensures) (i .before .before .if1 .left) (i .before .if2 .left) (i .if3 .left) _ _ _ _ _ (not-false _ (t .if4 .left))
-    (r .command .ensures) (h .hand-back .ensures)
+    (r .command .ensures) (h .result .ensures)
 
 pub purse-command-spec : {M : Type 1} → statement M
 purse-command-spec =
@@ -88,7 +88,7 @@ purse-command-spec =
     same-length
     returns-4
     command-requires
-    hand-back-requires
+    result-requires
     same-length-2
     same-length-3
     same-length-4

@@ -1,4 +1,4 @@
--- What the types of the code's areas and values promise of a state, and with it what the laws of the commands ask. Assumes nothing.
+-- What the types of the code's areas and values promise of a situation, and with it what the laws of the commands ask. Assumes nothing.
 use mathlib.Core.List.{List}
 use mathlib.Core.Option.{some}
 use mathlib.Core.Path.{_≡_}
@@ -11,10 +11,10 @@ use Rattle.card.proofs.Cards.{read-proper}
 use Rattle.session.specs.declared.Session.{Session}
 use Rattle.session.proofs.Sizes.{Sized}
 use Rattle.commands_spec.proofs.Sizes.{Sound}
-use Rattle.purse_spec.specs.History.{State}
+use Rattle.purse_spec.specs.History.{Situation}
 
 -- memory is of bytes, and the session's arrays have their sizes
-pub record Typed (st : State) : Type 0 where
+pub record Typed (st : Situation) : Type 0 where
   pub memory : AreBytes (st .memory)
   pub session : Sized (st .session)
 

@@ -2,8 +2,8 @@ use Rattle.octets.proofs.Rules.{rules}
 use Rattle.host.specs.Host.{areaAfter}
 use Rattle.host.proofs.Outcomes.{area-packed, area-cleared}
 use borrow.Author.Needs.{needs}
-use Rattle.host.proofs.handing.leave.Statement.{statement}
-use Rattle.host.proofs.handing.leave.Tie as tie
+use Rattle.host.proofs.result.leave.Statement.{statement}
+use Rattle.host.proofs.result.leave.Tie as tie
 
 pack-requires : tie.Need-pack-requires
 pack-requires c κs = search needs

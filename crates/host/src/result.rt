@@ -1,4 +1,4 @@
-// What a call hands back: one number, and the session area.
+// The result of a call: one number, and the session area.
 ghost use mathlib.Core.Path.{_≡_};
 ghost use Prim.Native.Nat.{_<_};
 ghost use lib.ListN.{length};
@@ -31,7 +31,7 @@ fn leave(area: &mut [u8], answer: u8, session: Session)
 }
 
 // The number of a call, and the session area behind it.
-pub fn hand_back(area: &mut [u8], called: Called) -> u64
+pub fn result(area: &mut [u8], called: Called) -> u64
     requires { ⌜ (length (now area) ≡ sessionSize) × (called .length < 256) × (called .count < 65536) ⌝ }
     ensures { λ r. ⌜ (r ≡ number (called .answer) (called .length) (called .count))
         × (now (area .exit) ≡ areaAfter (called .answer) (called .session) (now (area .entry))) ⌝ }

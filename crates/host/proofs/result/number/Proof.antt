@@ -1,8 +1,8 @@
 use mathlib.Core.Path.{refl}
 use Rattle.host.specs.Host.{number}
 use borrow.Author.Needs.{needs}
-use Rattle.host.proofs.handing.number.Statement.{statement}
-use Rattle.host.proofs.handing.number.Tie as tie
+use Rattle.host.proofs.result.number.Statement.{statement}
+use Rattle.host.proofs.result.number.Tie as tie
 
 mul-result : tie.Need-mul-result
 mul-result c = search needs

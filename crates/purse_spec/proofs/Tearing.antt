@@ -16,11 +16,11 @@ use Rattle.commands_spec.specs.Respond.{respond, cardAfter}
 use Rattle.commands_spec.proofs.Sizes.{Sound}
 use Rattle.purse_spec.specs.Calls.{Run, refusal, performed}
 use Rattle.purse_spec.specs.Commands.{outcomeRun, command}
-use Rattle.purse_spec.specs.History.{Call, send, State, OfBytes, run, next, after, OnlyStarts}
+use Rattle.purse_spec.specs.History.{Call, send, Situation, OfBytes, run, next, afterCalls, OnlyStarts}
 use Rattle.purse_spec.proofs.Performed.{by-limit}
 use Rattle.purse_spec.proofs.Runs.{command-on}
 use Rattle.purse_spec.proofs.Performing.{Fewer, CutCard, before, fewer, performed-done, performed-cut}
-use Rattle.purse_spec.proofs.Sound.{Typed, sound-of}
+use Rattle.purse_spec.proofs.Promised.{Typed, sound-of}
 use Rattle.purse_spec.proofs.Starting.{starts-keep}
 
 -- ---- the command
@@ -71,35 +71,35 @@ module _ (m : List ℕ) (c : Card) (s : Session) (bytes random area : List ℕ) 
 
 -- ---- the rule
 
-module _ (st : State) (c : Card) (bytes random area : List ℕ) (limit : ℕ) (starts : List Call)
-    (typed : Typed st) (given : OfBytes (send bytes random area limit)) (reads : readCard (st .memory) ≡ some c) (only : OnlyStarts starts) where
-  abbrev x : Call
-  x = send bytes random area limit
+-- behind a command at any limit, and any start-ups at theirs, memory reads as a card, and as which by the command's answer
+pub behind : (st : Situation) (c : Card) (bytes random area : List ℕ) (limit : ℕ) (starts : List Call)
+    → (typed : Typed st) → (given : OfBytes (send bytes random area limit)) → (reads : readCard (st .memory) ≡ some c) → (only : OnlyStarts starts)
+    → (d : Card) × (readCard (afterCalls (send bytes random area limit ∷ starts) st .memory) ≡ some d)
+    × Left c (st .session) bytes random (run (send bytes random area limit) st .answer) d
+unfolding afterCalls next run OfBytes
+behind st c bytes random area limit starts typed given reads only =
+    let m = st .memory in
+    let s = st .session in
+    let r =
+    command-left m c s bytes random area limit reads (λ n. sound-of m c s bytes random (typed .memory) reads (typed .session) (given .0) (given .1) n)
+    in
+    (r .0, ap readCard (starts-keep starts (next (send bytes random area limit) st) only) ∙ r .1, r .2)
 
-  -- behind a command at any limit, and any start-ups at theirs, memory reads as a card, and as which by the command's answer
-  pub behind : (d : Card) × (readCard (after (x ∷ starts) st .memory) ≡ some d) × Left c (st .session) bytes random (run x st .answer) d
-  unfolding after next run OfBytes
-  behind =
-      let m = st .memory in
-      let s = st .session in
-      let r =
-      command-left m c s bytes random area limit reads (λ n. sound-of m c s bytes random (typed .memory) reads (typed .session) (given .0) (given .1) n)
-      in
-      (r .0, ap readCard (starts-keep starts (next x st) only) ∙ r .1, r .2)
-
-  -- THE CUT RULE
-  pub cut-rule : (d : Card) × (readCard (after (x ∷ starts) st .memory) ≡ some d) × Behind c (st .session) bytes random d
-  cut-rule =
-      let b = behind in
-      let l = b .2 in
-      let n = run x st .answer in (
-        b .0,
-        b .1,
-        elim (ℕ-discrete n 0) [
-          | yes z ↦ as-due (l .finished z)
-          | no z ↦ elim (ℕ-discrete n 7) [
-            | yes k ↦ cut-behind (l .cut k)
-            | no k ↦ as-before (l .refused z k)
-          ]
-        ],
-      )
+-- THE CUT RULE: a command torn after any number of its stores, and start-ups torn behind it wherever and as often as one likes
+pub cut-rule : (st : Situation) (c : Card) (bytes random area : List ℕ) (limit : ℕ) (starts : List Call)
+    → (typed : Typed st) → (given : OfBytes (send bytes random area limit)) → (reads : readCard (st .memory) ≡ some c) → (only : OnlyStarts starts)
+    → (d : Card) × (readCard (afterCalls (send bytes random area limit ∷ starts) st .memory) ≡ some d) × Behind c (st .session) bytes random d
+cut-rule st c bytes random area limit starts typed given reads only =
+    let b = behind st c bytes random area limit starts typed given reads only in
+    let l = b .2 in
+    let n = run (send bytes random area limit) st .answer in (
+      b .0,
+      b .1,
+      elim (ℕ-discrete n 0) [
+        | yes z ↦ as-due (l .finished z)
+        | no z ↦ elim (ℕ-discrete n 7) [
+          | yes k ↦ cut-behind (l .cut k)
+          | no k ↦ as-before (l .refused z k)
+        ]
+      ],
+    )
