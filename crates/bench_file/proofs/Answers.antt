@@ -18,8 +18,8 @@ use Rattle.purse_spec.specs.Calls.{Run}
 use Rattle.purse_spec.specs.Installation.{installation}
 use Rattle.purse_spec.specs.Startup.{startup}
 use Rattle.purse_spec.specs.Commands.{command}
-use Rattle.purse_spec.specs.History.{Call, install, start, send, run}
-use Rattle.purse_spec.proofs.Answers.{listed, areaFor, answers-keep}
+use Rattle.purse_spec.specs.History.{Call, install, start, send, run, areaFor}
+use Rattle.purse_spec.proofs.Answers.{listed, answers-keep}
 use Rattle.bench_file.specs.declared.record.Printed.{Printed}
 use Rattle.bench_file.proofs.Lent.{take-least}
 use Rattle.bench_file.specs.Lines.{ran, moved, line, answerLine, responseLine, sessionAfter}

@@ -2,29 +2,21 @@
 -- from it. Assumes nothing.
 use mathlib.Core.Bool.{false}
 use mathlib.Core.List.{List}
-use mathlib.Core.Path.{_≡_, ap}
+use mathlib.Core.Path.{_≡_}
 use Prim.Native.Nat.{ℕ, _/_, _%_, _≤_, _<_}
 use native.Mathlib.Omega.{arith}
-use borrow.Author.Tests.{ltb-true}
-use lib.Dec.{ltb}
 use lib.ListN.{length}
 use Rattle.octets.specs.Bytes.{AreBytes}
-use Rattle.octets.proofs.Rules.{pick-holds}
-use Rattle.stores.specs.Stores.{Store, answers, reports}
+use Rattle.stores.specs.Stores.{Store}
 use Rattle.session.specs.declared.Session.{Session}
 use Rattle.session.specs.Session.{unselected}
-use Rattle.session.proofs.Sizes.{Sized, unselected-sized}
-use Rattle.commands_spec.proofs.Sizes.{reply-short}
+use Rattle.session.proofs.Sizes.{unselected-sized}
 use Rattle.purse_spec.specs.Calls.{Run, refusal, performed}
-use Rattle.purse_spec.specs.Installation.{installation}
-use Rattle.purse_spec.specs.Startup.{startup}
-use Rattle.purse_spec.specs.Commands.{command}
-use Rattle.purse_spec.specs.History.{Call, install, start, send, Situation, limited, OfBytes, run}
+use Rattle.purse_spec.specs.History.{Call, Situation, OfBytes, run, limitOf, areaFor}
 use Rattle.purse_spec.proofs.Performed.{by-limit}
-use Rattle.purse_spec.proofs.Runs.{installation-runs, startup-runs, command-runs}
-use Rattle.purse_spec.proofs.Counts.{Shape, one-refusal, one-plan, shape}
-use Rattle.purse_spec.proofs.Typed.{Typed, sound-of}
+use Rattle.purse_spec.proofs.Typed.{Typed}
 use Rattle.host.specs.Host.{number}
+use Rattle.purse_spec.proofs.EveryCall.{every-run}
 
 -- the parts of a number
 module _ (answer size count : ℕ) (a : answer < 256) where
@@ -46,76 +38,27 @@ pub record Small (r : Run) : Type 0 where
   pub size : r .length < 256
   pub count : r .count < 65536
 
--- ---- answer and count
+performed-small : (p : List Store) (limit : ℕ) (m : List ℕ) (s : Session) (reply area : List ℕ) → length p ≤ 65535 → length reply ≤ 32
+    → Small (performed p limit m s reply area)
+unfolding performed
+performed-small p limit m s reply area h k =
+    by-limit Small limit _ _ _ (λ l. record { answer = omega arith; size = omega arith; count = omega arith })
+    (λ l. record { answer = omega arith; size = omega arith; count = omega arith })
 
-answers-few : (p : List Store) (L : ℕ) → answers p L < 256
-unfolding answers
-answers-few p L = pick-holds (λ (n : ℕ). n < 256) (ltb L (length p)) 7 0 (λ t. omega arith) (λ t. omega arith)
-
-reports-few : (p : List Store) (L : ℕ) → length p ≤ 65535 → reports p L < 65536
-unfolding reports
-reports-few p L h =
-    pick-holds (λ (n : ℕ). n < 65536) (ltb L (length p)) L (length p) (λ t. let k = ltb-true L (length p) t in omega arith) (λ t. omega arith)
-
-shape-few : (m : List ℕ) (f : ℕ → Run) → Shape m f → (L : ℕ) → (f L .answer < 256) × (f L .count < 65536)
+-- every call
+pub run-small : (x : Call) (st : Situation) → Typed st → OfBytes x → Small (run x st)
 unfolding refusal
-shape-few m f (one-refusal n k l s area h) L =
-    let a : f L .answer ≡ n = ap (λ (r : Run). r .answer) (h L) in
-    let c : f L .count ≡ 0 = ap (λ (r : Run). r .count) (h L) in
-    (omega arith, omega arith)
-shape-few m f (one-plan p b h) L =
-    let a = h L .answer in
-    let c = h L .count in
-    let x = answers-few p L in
-    let y = reports-few p L b in
-    (omega arith, omega arith)
+run-small x st t f =
+    every-run x st Small (λ n k l. record { answer = omega arith; size = omega arith; count = omega arith })
+    (λ p s reply k. performed-small p (limitOf x) (st .memory) s reply (areaFor x) (k t f .few) (k t f .short))
 
-run-few : (x : Call) (st : Situation) → Typed st → OfBytes x → (L : ℕ) → (run (limited L x) st .answer < 256) × (run (limited L x) st .count < 65536)
-run-few x st t f L = shape-few (st .memory) (λ K. run (limited K x) st) (shape x st t f) L
-
--- ---- the three calls
+-- memory, and the session that its area reads as
+abbrev pub situated : List ℕ → Session → Situation
+situated m s = record { memory = m; session = s; cut = false }
 
 -- memory alone: installation and start-up take no session
 abbrev pub alone : List ℕ → Situation
-alone m = record { memory = m; session = unselected; cut = false }
+alone m = situated m unselected
 
 pub alone-typed : (m : List ℕ) → AreBytes m → Typed (alone m)
 alone-typed m f = record { memory = f; session = unselected-sized }
-
-performed-small : (p : List Store) (limit : ℕ) (m : List ℕ) (s : Session) (reply area : List ℕ) → length reply < 256 → performed p limit m s reply area .length < 256
-unfolding performed
-performed-small p limit m s reply area h = by-limit (λ (r : Run). r .length < 256) limit _ _ _ (λ k. omega arith) (λ k. h)
-
-pub installation-small : (m d : List ℕ) (limit : ℕ) → AreBytes m → AreBytes d → Small (installation m d limit)
-unfolding run limited OfBytes refusal
-installation-small m d limit f g =
-    let n = run-few (install d limit) (alone m) (alone-typed m f) g limit in
-    record {
-      answer = n .0;
-      size = installation-runs m (λ (r : ℕ → Run). r limit .length < 256) d (λ n k l. omega arith) (λ e t. performed-small _ limit m _ _ _ (omega arith));
-      count = n .1;
-    }
-
-pub startup-small : (m : List ℕ) (limit : ℕ) → AreBytes m → Small (startup m limit)
-unfolding run limited OfBytes refusal
-startup-small m limit f =
-    let n = run-few (start limit) (alone m) (alone-typed m f) tt limit in
-    record {
-      answer = n .0;
-      size = startup-runs m (λ (r : ℕ → Run). r limit .length < 256) (λ n k l. omega arith) (λ t. performed-small _ limit m _ _ _ (omega arith));
-      count = n .1;
-    }
-
-pub command-small : (m : List ℕ) (s : Session) (bytes random area : List ℕ) (limit : ℕ) → AreBytes m → Sized s → AreBytes bytes → AreBytes random
-    → Small (command m s bytes random area limit)
-unfolding run limited OfBytes refusal
-command-small m s bytes random area limit f z a b =
-    let n = run-few (send bytes random area limit) (record { memory = m; session = s; cut = false }) (record { memory = f; session = z }) (a, b) limit in
-    record {
-      answer = n .0;
-      size = command-runs m (λ (r : ℕ → Run). r limit .length < 256) s bytes random area (λ n k l. omega arith)
-          (λ c t u e.
-          let k = reply-short c s bytes random (sound-of m c s bytes random f e z a b u) .1 in
-          performed-small _ limit m _ _ area (omega arith));
-      count = n .1;
-    }

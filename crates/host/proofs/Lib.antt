@@ -1,4 +1,3 @@
 pub mod Bounds
 pub mod Order
-pub mod Answers
 pub mod Outcomes

@@ -1,6 +1,5 @@
 -- The calls of a C host: "Order: 1, 3, 4, 8, 2, 5, 6", where each refusal changes no area; and past 1, 3, 4 and 8 a call hands over what
 -- the purse gives, whose session the area then reads as. Assumes nothing.
-use mathlib.Core.Bool.{false}
 use mathlib.Core.List.{List, []}
 use mathlib.Core.Logic.{_⊎_, inl, inr}
 use mathlib.Core.Option.{Option, none, some}
@@ -22,18 +21,13 @@ use Rattle.purse_spec.specs.Calls.{Run}
 use Rattle.purse_spec.specs.Installation.{installation}
 use Rattle.purse_spec.specs.Startup.{startup}
 use Rattle.purse_spec.specs.Commands.{leastArea, command}
-use Rattle.purse_spec.specs.History.{Call, install, start, send, Situation, OfBytes, run, next}
+use Rattle.purse_spec.specs.History.{Call, install, start, send, Situation, OfBytes, run, next, areaFor}
 use Rattle.purse_spec.specs.Reasons.{FirstReason, NoReason, reasons}
 use Rattle.purse_spec.proofs.Typed.{Typed, typed-next}
-use Rattle.purse_spec.proofs.Answers.{areaFor}
 use Rattle.purse_spec.proofs.Answered.{refusal-number, refused-whole}
 use Rattle.host.specs.Host.{sessionSize, Handed, handed, number, areaAfter, outcome, lengthTested, installCall, startCall, inSession, commandCall}
 use Rattle.host.specs.Reasons.{hosted, areaReasons, cardReasons, hostReasons}
-use Rattle.host.proofs.Bounds.{alone, alone-typed}
-
--- memory, and the session that its area reads as
-abbrev pub situated : List ℕ → Session → Situation
-situated m s = record { memory = m; session = s; cut = false }
+use Rattle.host.proofs.Bounds.{situated, alone, alone-typed}
 
 -- ---- past 1, 3, 4 and 8
 
@@ -98,46 +92,46 @@ purse-refuses x st area n t f h =
     let k : n + 256 * 0 + 65536 * 0 ≡ n = omega arith in
     ap (λ (r : Run). outcome r area) (refused-whole x st t f n h) ∙ rw (ne-eqb n 0 (λ z. omega arith), ne-eqb n 7 (λ z. omega arith), k)
 
-module _ (m area : List ℕ) (f : AreBytes m) (g : AreBytes area) where
-  -- an area of another length reads as no session
-  other-length : (length area ≡ 128 → ⊥) ⊎ (unpacked area ≡ none) → unpacked area ≡ none
-  other-length (inr e) = e
-  other-length (inl w) = by (unpacked area) refl
-    where
-      by : (o : Option Session) → unpacked area ≡ o → o ≡ none
-      by none e = refl
-      by (some s) e = absurd (w (reads-array area s e g .long))
+-- an area of another length reads as no session
+other-length : (area : List ℕ) → AreBytes area → (length area ≡ 128 → ⊥) ⊎ (unpacked area ≡ none) → unpacked area ≡ none
+other-length area g (inr e) = e
+other-length area g (inl w) = by (unpacked area) refl
+  where
+    by : (o : Option Session) → unpacked area ≡ o → o ≡ none
+    by none e = refl
+    by (some s) e = absurd (w (reads-array area s e g .long))
 
-  -- past 8 an area reads as a session
-  pub session-read : ((length area ≡ 128 → ⊥) ⊎ (unpacked area ≡ none) → ⊥) → (s : Session) × (unpacked area ≡ some s)
-  session-read w = by (unpacked area) refl
-    where
-      by : (o : Option Session) → unpacked area ≡ o → (s : Session) × (unpacked area ≡ some s)
-      by none e = absurd (w (inr e))
-      by (some s) e = (s, e)
+-- past 8 an area reads as a session
+session-read : (area : List ℕ) → ((length area ≡ 128 → ⊥) ⊎ (unpacked area ≡ none) → ⊥) → (s : Session) × (unpacked area ≡ some s)
+session-read area w = by (unpacked area) refl
+  where
+    by : (o : Option Session) → unpacked area ≡ o → (s : Session) × (unpacked area ≡ some s)
+    by none e = absurd (w (inr e))
+    by (some s) e = (s, e)
 
-  -- "Order: 1, 3, 4, 8, 2, 5, 6": the first reason that holds is answered, and no area is changed
-  pub order : (x : Call) (n : ℕ) → OfBytes x → FirstReason (hostReasons x m area) n → hosted x m area ≡ handed n m area (areaFor x)
-  unfolding hostReasons areaReasons cardReasons reasons hosted installCall startCall areaFor run
-  order (install d limit) n k (refuses w) = tested-one m area (installation m d limit) w
-  order (install d limit) n k (passes a (refuses w)) = tested-eight m area (installation m d limit) (stable _ _ a) w
-  order (install d limit) n k (passes a (passes b h)) =
-      install-runs m area (stable _ _ a) d limit (stable _ _ b) ∙ purse-refuses (install d limit) (alone m) area n (alone-typed m f) k (passes a h)
-  order (start limit) n k (refuses w) = tested-one m area (startup m limit) w
-  order (start limit) n k (passes a (refuses w)) = tested-eight m area (startup m limit) (stable _ _ a) w
-  order (start limit) n k (passes a (passes b h)) =
-      start-runs m area (stable _ _ a) limit (stable _ _ b) ∙ purse-refuses (start limit) (alone m) area n (alone-typed m f) k (passes a h)
-  order (send bytes random response limit) n k (refuses w) = command-one m area bytes random response limit w
-  order (send bytes random response limit) n k (passes a (refuses w)) = command-three m area bytes random response limit (stable _ _ a) w
-  order (send bytes random response limit) n k (passes a (passes b (refuses w))) =
-      command-four m area bytes random response limit (stable _ _ a) (not-less _ _ b) w
-  order (send bytes random response limit) n k (passes a (passes b (passes c (refuses w)))) =
-      command-eight m area bytes random response limit (stable _ _ a) (not-less _ _ b) (stable _ _ c) (other-length w)
-  order (send bytes random response limit) n k (passes a (passes b (passes c (passes d h)))) =
-      let r = session-read d in
-      command-runs m area (stable _ _ a) bytes random response limit (r .0) (not-less _ _ b) (stable _ _ c) (r .1)
-      ∙ purse-refuses (send bytes random response limit) (situated m (r .0)) area n (record { memory = f; session = reads-sized area (r .0) (r .1) g }) k
-      (passes a (passes b (passes c h)))
+-- "Order: 1, 3, 4, 8, 2, 5, 6": the first reason that holds is answered, and no area is changed
+pub order : (x : Call) (m area : List ℕ) (n : ℕ) → (memory : AreBytes m) → (session : AreBytes area) → (given : OfBytes x)
+    → (first : FirstReason (hostReasons x m area) n) → hosted x m area ≡ handed n m area (areaFor x)
+unfolding hostReasons areaReasons cardReasons reasons hosted installCall startCall areaFor run
+order (install d limit) m area n f g k (refuses w) = tested-one m area (installation m d limit) w
+order (install d limit) m area n f g k (passes a (refuses w)) = tested-eight m area (installation m d limit) (stable _ _ a) w
+order (install d limit) m area n f g k (passes a (passes b h)) =
+    install-runs m area (stable _ _ a) d limit (stable _ _ b) ∙ purse-refuses (install d limit) (alone m) area n (alone-typed m f) k (passes a h)
+order (start limit) m area n f g k (refuses w) = tested-one m area (startup m limit) w
+order (start limit) m area n f g k (passes a (refuses w)) = tested-eight m area (startup m limit) (stable _ _ a) w
+order (start limit) m area n f g k (passes a (passes b h)) =
+    start-runs m area (stable _ _ a) limit (stable _ _ b) ∙ purse-refuses (start limit) (alone m) area n (alone-typed m f) k (passes a h)
+order (send bytes random response limit) m area n f g k (refuses w) = command-one m area bytes random response limit w
+order (send bytes random response limit) m area n f g k (passes a (refuses w)) = command-three m area bytes random response limit (stable _ _ a) w
+order (send bytes random response limit) m area n f g k (passes a (passes b (refuses w))) =
+    command-four m area bytes random response limit (stable _ _ a) (not-less _ _ b) w
+order (send bytes random response limit) m area n f g k (passes a (passes b (passes c (refuses w)))) =
+    command-eight m area bytes random response limit (stable _ _ a) (not-less _ _ b) (stable _ _ c) (other-length area g w)
+order (send bytes random response limit) m area n f g k (passes a (passes b (passes c (passes d h)))) =
+    let r = session-read area d in
+    command-runs m area (stable _ _ a) bytes random response limit (r .0) (not-less _ _ b) (stable _ _ c) (r .1)
+    ∙ purse-refuses (send bytes random response limit) (situated m (r .0)) area n (record { memory = f; session = reads-sized area (r .0) (r .1) g }) k
+    (passes a (passes b (passes c h)))
 
 -- ---- what is handed over
 
@@ -154,7 +148,7 @@ pub record Hands (r : Run) (area : List ℕ) (h : Handed) : Type 0 where
   pub refused : (r .answer ≡ 0 → ⊥) → (r .answer ≡ 7 → ⊥) → h .session ≡ area
 
 -- the session of a finished call has the sizes of its type
-pub sized-done : (x : Call) (st : Situation) → Typed st → OfBytes x → run x st .answer ≡ 0 → Sized (run x st .session)
+sized-done : (x : Call) (st : Situation) → Typed st → OfBytes x → run x st .answer ≡ 0 → Sized (run x st .session)
 unfolding next
 sized-done x st t f e =
     let z = typed-next x st t f .session in

@@ -92,44 +92,44 @@ adds b (some n) e =
       nothing = λ h. absurd (let z : _≡_ {A = ℕ} 0 1 = cc in omega arith);
     }
 
-module _ (bytes : List ℕ) (r : Run) (grew : Bool) (b : Ledger) where
-  -- the tests of a command's first two bytes
-  begins : (ins : ℕ) → (eqb (byteAt bytes 0) 0x94 && eqb (byteAt bytes 1) ins) ≡ true → Begins bytes 0x94 ins
-  begins ins t = let u = and-both (eqb (byteAt bytes 0) 0x94) (eqb (byteAt bytes 1) ins) t in (eqb-true _ _ (u .0), eqb-true _ _ (u .1))
+-- the tests of a command's first two bytes
+begins : (bytes : List ℕ) (ins : ℕ) → (eqb (byteAt bytes 0) 0x94 && eqb (byteAt bytes 1) ins) ≡ true → Begins bytes 0x94 ins
+begins bytes ins t = let u = and-both (eqb (byteAt bytes 0) 0x94) (eqb (byteAt bytes 1) ins) t in (eqb-true _ _ (u .0), eqb-true _ _ (u .1))
 
-  -- a command with 9000 isn't one that begins otherwise
-  not-so : (ins : ℕ) → (Begins bytes 0x94 ins → statusWord r ≡ 0x9000 → ⊥) → (eqb (byteAt bytes 0) 0x94 && eqb (byteAt bytes 1) ins && eqb (statusWord r) 0x9000) ≡ false
-  not-so ins h = no-and _ (eqb (statusWord r) 0x9000) (λ t u. h (begins ins t) (eqb-true _ _ u))
+-- a command with 9000 isn't one that begins otherwise
+not-so : (bytes : List ℕ) (r : Run) (ins : ℕ) → (Begins bytes 0x94 ins → statusWord r ≡ 0x9000 → ⊥) → (eqb (byteAt bytes 0) 0x94 && eqb (byteAt bytes 1) ins && eqb (statusWord r) 0x9000) ≡ false
+not-so bytes r ins h = no-and _ (eqb (statusWord r) 0x9000) (λ t u. h (begins bytes ins t) (eqb-true _ _ u))
 
-  -- a command
-  pub command-books : (random area : List ℕ) (limit : ℕ) → Books bytes r grew b (fed (send bytes random area limit) r grew b)
-  unfolding fed fedCommand isInitialize isComplete noteOf noting
-  command-books random area limit =
-      record {
-        noted = λ e h w.
-            rw (eq-eqb (r .answer) 0 e, eq-eqb (byteAt bytes 0) 0x94 (h .0), eq-eqb (byteAt bytes 1) 0x44 (h .1), eq-eqb (statusWord r) 0x9000 w) (
-              record { debit = eqb (byteAt bytes 2) 0x00; amount = byteAt bytes 7 * 256 + byteAt bytes 8 },
-              record { amount = omega arith; debit = λ z. eq-eqb (byteAt bytes 2) 0 z; credit = λ z. ne-eqb (byteAt bytes 2) 0 z },
-              record { credits = refl; debits = refl; note = refl },
-            );
-        completed = λ e h w.
-            let k = h .1 in
-            rw (
-              eq-eqb (r .answer) 0 e,
-              eq-eqb (byteAt bytes 0) 0x94 (h .0),
-              ne-eqb (byteAt bytes 1) 0x44 (λ z. omega arith),
-              eq-eqb (byteAt bytes 1) 0x46 k,
-              eq-eqb (statusWord r) 0x9000 w,
-            )
-            (adds b (b .note) refl);
-        dropped = λ e x y. rw (eq-eqb (r .answer) 0 e, not-so 0x44 x, not-so 0x46 y) (record { credits = refl; debits = refl; note = refl });
-        nothing = λ e x.
-            rw (
-              ne-eqb (r .answer) 0 e,
-              no-and (eqb (r .answer) 7 && (eqb (byteAt bytes 0) 0x94 && eqb (byteAt bytes 1) 0x46)) grew
-                  (λ t g. let u = and-both (eqb (r .answer) 7) (eqb (byteAt bytes 0) 0x94 && eqb (byteAt bytes 1) 0x46) t in x (eqb-true _ _ (u .0)) (begins 0x46 (u .1)) g),
-            );
-        cut = λ e h g.
-            rw (ne-eqb (r .answer) 0 (omega arith), eq-eqb (r .answer) 7 e, eq-eqb (byteAt bytes 0) 0x94 (h .0), eq-eqb (byteAt bytes 1) 0x46 (h .1), g)
-            (adds b (b .note) refl);
-      }
+-- a command
+pub command-books : (bytes random area : List ℕ) (limit : ℕ) (r : Run) (grew : Bool) (b : Ledger)
+    → Books bytes r grew b (fed (send bytes random area limit) r grew b)
+unfolding fed fedCommand isInitialize isComplete noteOf noting
+command-books bytes random area limit r grew b =
+    record {
+      noted = λ e h w.
+          rw (eq-eqb (r .answer) 0 e, eq-eqb (byteAt bytes 0) 0x94 (h .0), eq-eqb (byteAt bytes 1) 0x44 (h .1), eq-eqb (statusWord r) 0x9000 w) (
+            record { debit = eqb (byteAt bytes 2) 0x00; amount = byteAt bytes 7 * 256 + byteAt bytes 8 },
+            record { amount = omega arith; debit = λ z. eq-eqb (byteAt bytes 2) 0 z; credit = λ z. ne-eqb (byteAt bytes 2) 0 z },
+            record { credits = refl; debits = refl; note = refl },
+          );
+      completed = λ e h w.
+          let k = h .1 in
+          rw (
+            eq-eqb (r .answer) 0 e,
+            eq-eqb (byteAt bytes 0) 0x94 (h .0),
+            ne-eqb (byteAt bytes 1) 0x44 (λ z. omega arith),
+            eq-eqb (byteAt bytes 1) 0x46 k,
+            eq-eqb (statusWord r) 0x9000 w,
+          )
+          (adds b (b .note) refl);
+      dropped = λ e x y. rw (eq-eqb (r .answer) 0 e, not-so bytes r 0x44 x, not-so bytes r 0x46 y) (record { credits = refl; debits = refl; note = refl });
+      nothing = λ e x.
+          rw (
+            ne-eqb (r .answer) 0 e,
+            no-and (eqb (r .answer) 7 && (eqb (byteAt bytes 0) 0x94 && eqb (byteAt bytes 1) 0x46)) grew
+                (λ t g. let u = and-both (eqb (r .answer) 7) (eqb (byteAt bytes 0) 0x94 && eqb (byteAt bytes 1) 0x46) t in x (eqb-true _ _ (u .0)) (begins bytes 0x46 (u .1)) g),
+          );
+      cut = λ e h g.
+          rw (ne-eqb (r .answer) 0 (omega arith), eq-eqb (r .answer) 7 e, eq-eqb (byteAt bytes 0) 0x94 (h .0), eq-eqb (byteAt bytes 1) 0x46 (h .1), g)
+          (adds b (b .note) refl);
+    }

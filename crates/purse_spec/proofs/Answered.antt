@@ -16,14 +16,15 @@ use Rattle.card.proofs.Live.{sound}
 use Rattle.card.proofs.Cards.{readable-read}
 use Rattle.commands_spec.specs.Order.{Rule, refuses, passes}
 use Rattle.purse_spec.specs.Calls.{Run, refusal}
-use Rattle.purse_spec.specs.History.{Call, install, start, send, Situation, limited, OfBytes, run}
-use Rattle.purse_spec.specs.Reasons.{FirstReason, reasons, limitOf, storesOf, Ends, cut, finished, Due}
-use Rattle.purse_spec.proofs.Answers.{sessionFor, areaFor, answers-keep}
+use Rattle.purse_spec.specs.History.{Call, install, start, send, Situation, limited, OfBytes, run, limitOf, sessionFor, areaFor}
+use Rattle.purse_spec.specs.Reasons.{FirstReason, reasons, storesOf, Ends, cut, finished, Due}
+use Rattle.purse_spec.proofs.Answers.{answers-keep}
 use Rattle.purse_spec.proofs.Performed.{done-or-cut}
 use Rattle.purse_spec.proofs.Runs.{installation-holds, startup-holds, command-holds}
 use Rattle.purse_spec.proofs.Installing.{in-range, only-in-range}
 use Rattle.purse_spec.proofs.Promised.{Typed}
 use Rattle.purse_spec.proofs.Counts.{Shape, one-refusal, one-plan, shape}
+use Rattle.purse_spec.proofs.EveryCall.{own-limit}
 
 -- ---- rules in a row
 
@@ -94,12 +95,6 @@ decided (send bytes random area limit) st =
 
 -- ---- 7 or 0
 
-own-limit : (x : Call) → limited (limitOf x) x ≡ x
-unfolding limited limitOf
-own-limit (install d limit) = refl
-own-limit (start limit) = refl
-own-limit (send bytes random area limit) = refl
-
 module _ (x : Call) (st : Situation) (t : Typed st) (f : OfBytes x) where
   abbrev F : ℕ → Run
   F L = run (limited L x) st
@@ -133,10 +128,10 @@ module _ (x : Call) (st : Situation) (t : Typed st) (f : OfBytes x) where
   ends n e (inl z) = rw z (finished (limits n e .1 z))
   ends n e (inr z) = rw z (cut (limits n e .0 z))
 
-  -- "Each answer is given only for its reason"
-  pub answered : Due x st (run x st .answer)
-  unfolding Due
-  answered = reasons-map x st ZeroOrSeven (Ends x st) (run x st .answer) (ends (run x st .answer) refl) (decided x st)
+-- "Each answer is given only for its reason"
+pub answered : (x : Call) (st : Situation) → (typed : Typed st) → (given : OfBytes x) → Due x st (run x st .answer)
+unfolding Due
+answered x st t f = reasons-map x st ZeroOrSeven (Ends x st) (run x st .answer) (ends x st t f (run x st .answer) refl) (decided x st)
 
 -- no two answers are due at once
 ends-once : (x : Call) (st : Situation) (n k : ℕ) → Ends x st n → Ends x st k → n ≡ k
@@ -153,7 +148,7 @@ one-due (send bytes random area limit) st n k =
     rule-once (rule-once (rule-once (rule-once (rule-once (ends-once (send bytes random area limit) st))))) n k
 
 -- and wherever an answer is due, it is given
-pub exactly : (x : Call) (st : Situation) → Typed st → OfBytes x → (n : ℕ) → Due x st n → run x st .answer ≡ n
+pub exactly : (x : Call) (st : Situation) → (typed : Typed st) → (given : OfBytes x) → (n : ℕ) → (due : Due x st n) → run x st .answer ≡ n
 exactly x st t f n d = one-due x st (run x st .answer) n (answered x st t f) d
 
 -- ---- a refusal changes nothing

@@ -1,6 +1,7 @@
 -- Document 01, "What a call can say": what each answer leaves as it was, and that every answer is one of the list. Assumes nothing.
 use mathlib.Core.Bool.{true, _||_, false≢true}
 use mathlib.Core.List.{List, []}
+use mathlib.Core.Logic.{_⊎_, inl, inr}
 use mathlib.Core.Path.{_≡_, refl}
 use Prim.Native.Nat.{ℕ, _≤_}
 use native.Mathlib.Omega.{arith}
@@ -11,23 +12,12 @@ use Rattle.stores.proofs.Plans.{leaves-length}
 use Rattle.session.specs.declared.Session.{Session}
 use Rattle.session.specs.Session.{unselected}
 use Rattle.purse_spec.specs.Calls.{Run, refusal, performed}
-use Rattle.purse_spec.specs.History.{Call, install, start, send, Situation, run, isStart, isInstall}
-use Rattle.purse_spec.proofs.Performed.{by-limit}
-use Rattle.purse_spec.proofs.Runs.{installation-runs, startup-runs, command-runs}
+use Rattle.purse_spec.specs.History.{Call, install, start, send, Situation, limitOf, sessionFor, areaFor, run, isStart, isInstall}
+use Rattle.purse_spec.proofs.Performed.{by-limit, done-or-cut}
+use Rattle.purse_spec.proofs.Runs.{installation-runs, startup-runs}
+use Rattle.purse_spec.proofs.EveryCall.{every-run}
 
 -- ---- what each leaves as it was
-
--- the session that a call is given; installation and start-up take none, nor a response area
-unfoldable pub sessionFor : Call → Situation → Session
-sessionFor (install d limit) st = unselected
-sessionFor (start limit) st = unselected
-sessionFor (send bytes random area limit) st = st .session
-
--- the area
-unfoldable pub areaFor : Call → List ℕ
-areaFor (install d limit) = []
-areaFor (start limit) = []
-areaFor (send bytes random area limit) = area
 
 -- of a call on memory m that is given a session and a response area, and gives r
 pub record Keeps (m : List ℕ) (s : Session) (area : List ℕ) (r : Run) : Type 0 where
@@ -53,16 +43,9 @@ performed-keeps p limit m s t reply area =
 
 -- every call
 pub answers-keep : (x : Call) (st : Situation) → Keeps (st .memory) (sessionFor x st) (areaFor x) (run x st)
-unfolding run sessionFor areaFor
-answers-keep (install d limit) st =
-    installation-runs (st .memory) (λ (r : ℕ → Run). Keeps (st .memory) unselected [] (r limit)) d (refusal-keeps (st .memory) unselected [])
-    (λ e t. performed-keeps _ limit (st .memory) _ _ _ _)
-answers-keep (start limit) st =
-    startup-runs (st .memory) (λ (r : ℕ → Run). Keeps (st .memory) unselected [] (r limit)) (refusal-keeps (st .memory) unselected [])
-    (λ t. performed-keeps _ limit (st .memory) _ _ _ _)
-answers-keep (send bytes random area limit) st =
-    command-runs (st .memory) (λ (r : ℕ → Run). Keeps (st .memory) (st .session) area (r limit)) (st .session) bytes random area
-    (refusal-keeps (st .memory) (st .session) area) (λ c t u e. performed-keeps _ limit (st .memory) _ _ _ _)
+answers-keep x st =
+    every-run x st (Keeps (st .memory) (sessionFor x st) (areaFor x)) (refusal-keeps (st .memory) (sessionFor x st) (areaFor x))
+    (λ p s reply k. performed-keeps p (limitOf x) (st .memory) (sessionFor x st) s reply (areaFor x))
 
 none-selected : (p : List Store) (limit : ℕ) (m : List ℕ) → performed p limit m unselected [] [] .session ≡ unselected
 unfolding performed
@@ -79,17 +62,13 @@ hands-unselected (send bytes random area limit) st h = absurd (false≢true h)
 
 -- ---- the list
 
-performed-listed : (p : List Store) (limit : ℕ) (m : List ℕ) (s : Session) (reply area : List ℕ) → performed p limit m s reply area .answer ≤ 7
-unfolding performed
-performed-listed p limit m s reply area = by-limit (λ (r : Run). r .answer ≤ 7) limit _ _ _ (λ k. omega arith) (λ k. omega arith)
-
 -- 0 to 7; 8 is the C host's
 pub listed : (x : Call) (st : Situation) → run x st .answer ≤ 7
-unfolding run refusal
-listed (install d limit) st =
-    installation-runs (st .memory) (λ (r : ℕ → Run). r limit .answer ≤ 7) d (λ n k l. omega arith) (λ e t. performed-listed _ limit (st .memory) _ _ _)
-listed (start limit) st =
-    startup-runs (st .memory) (λ (r : ℕ → Run). r limit .answer ≤ 7) (λ n k l. omega arith) (λ t. performed-listed _ limit (st .memory) _ _ _)
-listed (send bytes random area limit) st =
-    command-runs (st .memory) (λ (r : ℕ → Run). r limit .answer ≤ 7) (st .session) bytes random area (λ n k l. omega arith)
-    (λ c t u e. performed-listed _ limit (st .memory) _ _ _)
+unfolding refusal
+listed x st =
+    every-run x st (λ (r : Run). r .answer ≤ 7) (λ n k l. omega arith)
+    (λ p s reply k. either (done-or-cut p (limitOf x) (st .memory) s reply (areaFor x)))
+  where
+    either : {n : ℕ} → (n ≡ 0) ⊎ (n ≡ 7) → n ≤ 7
+    either (inl e) = omega arith
+    either (inr e) = omega arith

@@ -1,7 +1,7 @@
 -- One call and the ledger: where memory reads as a card whose balance is the ledger's sum, and the ledger's note is what the session has
 -- noted, the same holds behind any call but a cut installation. Assumes nothing.
 use mathlib.Core.Bool.{Bool, true, false, _&&_, false≢true}
-use mathlib.Core.List.{List, []}
+use mathlib.Core.List.{List}
 use mathlib.Core.Option.{Option, none, some}
 use mathlib.Core.Path.{_≡_, refl, sym, ap, _∙_, subst}
 use Prim.Native.Nat.{ℕ, _+_, _-_, _≤_, _<_}

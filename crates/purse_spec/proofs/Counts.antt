@@ -1,32 +1,23 @@
 -- Document 01, "Stores", of every call: what a limit does to memory, which count is reported, and when a run is cut. A call is taken as
 -- a function of its limit. Assumes nothing.
-use mathlib.Core.List.{List, []}
+use mathlib.Core.List.{List}
 use mathlib.Core.Logic.{_≢_}
 use mathlib.Core.Path.{_≡_, refl, sym, ap, _∙_}
 use Prim.Native.Nat.{ℕ, suc, _≤_, _<_}
 use native.Mathlib.Omega.{arith}
 use lib.ListN.{length, getD}
-use Rattle.octets.specs.Bytes.{AreBytes}
 use Rattle.stores.specs.Stores.{Store, answers}
 use Rattle.stores.specs.Limits.{leastLimit}
 use Rattle.stores.proofs.Plans.{leaves-length}
 use Rattle.stores.proofs.Limits.{limit-zero, limit-one-byte, limit-enough, answers-done, seven-cut, zero-done, not-seven-done, reports-limit, reports-count}
 use Rattle.stores.proofs.Least.{least-plan, least-same}
-use Rattle.card.specs.Changes.{installPlan}
-use Rattle.card.proofs.Bounds.{install-length}
 use Rattle.session.specs.declared.Session.{Session}
-use Rattle.session.proofs.Sizes.{Sized}
-use Rattle.commands_spec.specs.Respond.{respond}
 use Rattle.purse_spec.specs.Calls.{Run, refusal}
-use Rattle.purse_spec.specs.Installation.{fixedOf, keysOf, installation}
-use Rattle.purse_spec.specs.Startup.{startup}
-use Rattle.purse_spec.specs.Commands.{outcomePlan, command}
-use Rattle.purse_spec.specs.History.{Call, install, start, send, Situation, limited, OfBytes, run}
+use Rattle.purse_spec.specs.History.{Call, Situation, limited, OfBytes, run, sessionFor, areaFor}
 use Rattle.purse_spec.proofs.Performed.{Follows, performed-follows}
-use Rattle.purse_spec.proofs.Runs.{AnyRefusal, installation-runs, startup-runs, command-runs}
-use Rattle.purse_spec.proofs.Installing.{installable}
-use Rattle.purse_spec.proofs.Performing.{performed-few}
-use Rattle.purse_spec.proofs.Promised.{Typed, sound-of}
+use Rattle.purse_spec.proofs.Runs.{AnyRefusal}
+use Rattle.purse_spec.proofs.EveryCall.{every-call}
+use Rattle.purse_spec.proofs.Promised.{Typed}
 
 -- ---- a call is one refusal at every limit, or the stores of one plan
 
@@ -38,33 +29,11 @@ pub data Shape (m : List ℕ) (f : ℕ → Run) : Type 0 where
 refused-shape : (m : List ℕ) (s : Session) (area : List ℕ) → AnyRefusal (Shape m) s m area
 refused-shape m s area n k l = one-refusal n k l s area (λ L. refl)
 
-installation-shape : (m d : List ℕ) → AreBytes d → Shape m (λ L. installation m d L)
-installation-shape m d f =
-    installation-runs m (Shape m) d (refused-shape m _ _)
-    (λ e t.
-    let i = installable d f t in
-    let n = install-length (fixedOf d) (keysOf d) (i .aid) (i .keys) in
-    one-plan (installPlan (fixedOf d) (keysOf d)) (omega arith) (λ L. performed-follows _ L m _ _ _))
-
-startup-shape : (m : List ℕ) → Shape m (λ L. startup m L)
-startup-shape m =
-    startup-runs m (Shape m) (refused-shape m _ _) (λ t. one-plan [] (omega arith) (λ L. performed-follows [] L m _ _ _))
-
-command-shape : (m : List ℕ) (s : Session) (bytes random area : List ℕ) → AreBytes m → Sized s → AreBytes bytes → AreBytes random
-    → Shape m (λ L. command m s bytes random area L)
-command-shape m s bytes random area f z a b =
-    command-runs m (Shape m) s bytes random area (refused-shape m s area)
-    (λ c t u e.
-    let i = sound-of m c s bytes random f e z a b u in
-    let o = respond c s bytes random in
-    one-plan (outcomePlan c o m) (performed-few m c s bytes random e i) (λ L. performed-follows _ L m _ _ _))
-
 -- every call
 pub shape : (x : Call) (st : Situation) → Typed st → OfBytes x → Shape (st .memory) (λ L. run (limited L x) st)
-unfolding run limited OfBytes
-shape (install d limit) st t f = installation-shape (st .memory) d f
-shape (start limit) st t f = startup-shape (st .memory)
-shape (send bytes random area limit) st t f = command-shape (st .memory) (st .session) bytes random area (t .memory) (t .session) (f .0) (f .1)
+shape x st t f =
+    every-call x st (Shape (st .memory)) (refused-shape (st .memory) (sessionFor x st) (areaFor x))
+    (λ p s reply k. one-plan p (k t f .few) (λ L. performed-follows p L (st .memory) s reply (areaFor x)))
 
 -- ---- the laws
 

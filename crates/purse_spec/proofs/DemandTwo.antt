@@ -18,9 +18,9 @@ use Rattle.commands_spec.specs.Order.{passes}
 use Rattle.commands_spec.specs.Respond.{respond, cardAfter}
 use Rattle.commands_spec.proofs.Sizes.{reply-short}
 use Rattle.purse_spec.specs.Calls.{Run, awaits}
-use Rattle.purse_spec.specs.History.{Call, send, Situation, OfBytes, run}
+use Rattle.purse_spec.specs.History.{Call, send, Situation, OfBytes, run, limitOf}
 use Rattle.purse_spec.specs.Ledger.{statusWord}
-use Rattle.purse_spec.specs.Reasons.{reasons, limitOf, storesOf, Ends, finished, Due}
+use Rattle.purse_spec.specs.Reasons.{reasons, storesOf, Ends, finished, Due}
 use Rattle.purse_spec.proofs.Promised.{Typed, sound-of}
 use Rattle.purse_spec.proofs.Tearing.{command-left}
 use Rattle.purse_spec.proofs.Responses.{responds}

@@ -452,7 +452,7 @@ completion-named : (s : Session) → (byteAt (completion s (zeros 16) []) 0 ≡ 
 unfolding signedCommand signedBy signedText
 completion-named s = (refl, refl)
 
-pub cut-complete : (first : Situation) → Typed first → length (first .memory) ≡ 4096 → CutIn 0x94 0x46 first
+cut-complete : (first : Situation) → Typed first → length (first .memory) ≡ 4096 → CutIn 0x94 0x46 first
 cut-complete first t e =
     let w = ready first t e in
     let c = w .card in
@@ -539,7 +539,7 @@ guess-wrong s e =
     let n : _≡_ {A = ℕ} 0 0x24 = ap (λ (l : List ℕ). byteAt l 0) z in
     omega arith
 
-pub cut-verify : (first : Situation) → Typed first → length (first .memory) ≡ 4096 → CutIn 0x94 0x20 first
+cut-verify : (first : Situation) → Typed first → length (first .memory) ≡ 4096 → CutIn 0x94 0x20 first
 unfolding triesLeft
 cut-verify first t e =
     let w = pinned (ready first t e) in
@@ -554,7 +554,7 @@ cut-verify first t e =
 
 -- ---- two installations
 
-pub two-installations : (first : Situation) → Typed first → length (first .memory) ≡ 4096
+two-installations : (first : Situation) → Typed first → length (first .memory) ≡ 4096
     → AllOfBytes (install given 65535 ∷ install given 65535 ∷ []) × IsHistory (install given 65535 ∷ install given 65535 ∷ []) first
 unfolding AllOfBytes IsHistory Admissible OfBytes isInstall isStart
 two-installations first t e =

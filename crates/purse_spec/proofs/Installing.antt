@@ -195,38 +195,41 @@ installable d f e =
 
 -- ---- its runs
 
-module _ (m d : List ℕ) (limit : ℕ) where
-  abbrev p : List Store
-  p = installPlan (fixedOf d) (keysOf d)
+abbrev givenPlan : List ℕ → List Store
+givenPlan d = installPlan (fixedOf d) (keysOf d)
 
-  -- past its refusals and not cut, it leaves the fresh card
-  pub installed-reads : AreBytes d → length m ≡ memorySize → dataOk d ≡ true → length p ≤ limit → readCard (leaves p limit m) ≡ some (fresh (fixedOf d) (keysOf d))
-  installed-reads f e t n = ap readCard (limit-enough p limit m n) ∙ install-done (fixedOf d) (keysOf d) (installable d f t) m e
+-- past its refusals and not cut, it leaves the fresh card
+pub installed-reads : (m d : List ℕ) (limit : ℕ) → AreBytes d → length m ≡ memorySize → dataOk d ≡ true → length (givenPlan d) ≤ limit
+    → readCard (leaves (givenPlan d) limit m) ≡ some (fresh (fixedOf d) (keysOf d))
+installed-reads m d limit f e t n =
+    ap readCard (limit-enough (givenPlan d) limit m n) ∙ install-done (fixedOf d) (keysOf d) (installable d f t) m e
 
-  -- what isn't refused finishes from limit 231 on, whatever memory held
-  pub installation-finishes : AreBytes d → length m ≡ memorySize → dataOk d ≡ true → installCount ≤ limit → installation m d limit .answer ≡ 0
-  installation-finishes f l t k =
-      installation-holds m (λ (r : ℕ → Run). r limit .answer ≡ 0) d (λ e. absurd (e l)) (λ e u. absurd (false≢true (sym u ∙ t)))
-      (λ e u.
-      let i = installable d f t in
-      let n = install-length (fixedOf d) (keysOf d) (i .aid) (i .keys) in
-      performed-follows p limit m unselected [] [] .answer ∙ answers-done p limit (omega arith))
+-- what isn't refused finishes from limit 231 on, whatever memory held
+pub installation-finishes : (m d : List ℕ) (limit : ℕ) → AreBytes d → length m ≡ memorySize → dataOk d ≡ true → installCount ≤ limit
+    → installation m d limit .answer ≡ 0
+installation-finishes m d limit f l t k =
+    installation-holds m (λ (r : ℕ → Run). r limit .answer ≡ 0) d (λ e. absurd (e l)) (λ e u. absurd (false≢true (sym u ∙ t)))
+    (λ e u.
+    let i = installable d f t in
+    let n = install-length (fixedOf d) (keysOf d) (i .aid) (i .keys) in
+    performed-follows (givenPlan d) limit m unselected [] [] .answer ∙ answers-done (givenPlan d) limit (omega arith))
 
-  -- "a finished one leaves the fresh card of its data"
-  pub installation-done : AreBytes d → installation m d limit .answer ≡ 0 → readCard (installation m d limit .memory) ≡ some (fresh (fixedOf d) (keysOf d))
-  unfolding refusal performed
-  installation-done f =
-      installation-runs m (λ (r : ℕ → Run). r limit .answer ≡ 0 → readCard (r limit .memory) ≡ some (fresh (fixedOf d) (keysOf d))) d
-      (λ n k l z. absurd (omega arith))
-      (λ e t. by-limit (λ (r : Run). r .answer ≡ 0 → readCard (r .memory) ≡ some (fresh (fixedOf d) (keysOf d))) limit _ _ _
-      (λ k z. absurd (omega arith)) (λ k z. installed-reads f e t k))
+-- "a finished one leaves the fresh card of its data"
+pub installation-done : (m d : List ℕ) (limit : ℕ) → (given : AreBytes d) → (finished : installation m d limit .answer ≡ 0)
+    → readCard (installation m d limit .memory) ≡ some (fresh (fixedOf d) (keysOf d))
+unfolding refusal performed
+installation-done m d limit f =
+    installation-runs m (λ (r : ℕ → Run). r limit .answer ≡ 0 → readCard (r limit .memory) ≡ some (fresh (fixedOf d) (keysOf d))) d
+    (λ n k l z. absurd (omega arith))
+    (λ e t. by-limit (λ (r : Run). r .answer ≡ 0 → readCard (r .memory) ≡ some (fresh (fixedOf d) (keysOf d))) limit _ _ _
+    (λ k z. absurd (omega arith)) (λ k z. installed-reads m d limit f e t k))
 
-  -- a cut one reads as before or as no card
-  pub installation-cut : installation m d limit .answer ≡ 7
-      → (readCard (installation m d limit .memory) ≡ readCard m) ⊎ (readCard (installation m d limit .memory) ≡ none)
-  unfolding refusal performed
-  installation-cut =
-      installation-runs m (λ (r : ℕ → Run). r limit .answer ≡ 7 → (readCard (r limit .memory) ≡ readCard m) ⊎ (readCard (r limit .memory) ≡ none)) d
-      (λ n k l z. absurd (omega arith))
-      (λ e t. by-limit (λ (r : Run). r .answer ≡ 7 → (readCard (r .memory) ≡ readCard m) ⊎ (readCard (r .memory) ≡ none)) limit _ _ _
-      (λ k z. install-cut (fixedOf d) (keysOf d) m e limit k) (λ k z. absurd (omega arith)))
+-- a cut one reads as before or as no card
+pub installation-cut : (m d : List ℕ) (limit : ℕ) → (cut : installation m d limit .answer ≡ 7)
+    → (readCard (installation m d limit .memory) ≡ readCard m) ⊎ (readCard (installation m d limit .memory) ≡ none)
+unfolding refusal performed
+installation-cut m d limit =
+    installation-runs m (λ (r : ℕ → Run). r limit .answer ≡ 7 → (readCard (r limit .memory) ≡ readCard m) ⊎ (readCard (r limit .memory) ≡ none)) d
+    (λ n k l z. absurd (omega arith))
+    (λ e t. by-limit (λ (r : Run). r .answer ≡ 7 → (readCard (r .memory) ≡ readCard m) ⊎ (readCard (r .memory) ≡ none)) limit _ _ _
+    (λ k z. install-cut (fixedOf d) (keysOf d) m e limit k) (λ k z. absurd (omega arith)))

@@ -1,6 +1,5 @@
 pub mod Performed
 pub mod Runs
-pub mod Answers
 pub mod Installing
 pub mod Fresh
 pub mod Starting
@@ -9,6 +8,8 @@ pub mod Rows
 pub mod Names
 pub mod Performing
 pub mod Promised
+pub mod EveryCall
+pub mod Answers
 pub mod Counts
 pub mod Answered
 pub mod Tearing

@@ -20,7 +20,7 @@ use Rattle.commands_spec.specs.Respond.{respond}
 use Rattle.commands_spec.proofs.Words.{status-listed}
 use Rattle.commands_spec.proofs.Sizes.{Sound, reply-short}
 use Rattle.purse_spec.specs.Calls.{Run, refusal, performed}
-use Rattle.purse_spec.specs.Commands.{leastArea, outcomePlan, outcomeRun}
+use Rattle.purse_spec.specs.Commands.{leastArea, outcomeRun}
 use Rattle.purse_spec.specs.History.{send, Situation, OfBytes, run}
 use Rattle.purse_spec.specs.Ledger.{statusWord}
 use Rattle.purse_spec.proofs.Performed.{by-limit}

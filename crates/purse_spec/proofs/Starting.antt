@@ -25,7 +25,7 @@ startup-keeps m limit = startup-runs m (λ (r : ℕ → Run). r limit .memory �
     (λ t. performed-follows [] limit m unselected [] [] .memory ∙ leaves-nothing limit m)
 
 -- readable memory has its size
-pub readable-sized : (m : List ℕ) → readable m ≡ true → length m ≡ memorySize
+readable-sized : (m : List ℕ) → readable m ≡ true → length m ≡ memorySize
 readable-sized m t = sound m _ (reads m _ (readable-read m t)) .size
 
 -- and on it every start-up finishes, at any limit

@@ -12,8 +12,8 @@ use Rattle.card.specs.Card.{Card}
 use Rattle.card.specs.Reading.{readCard}
 use Rattle.session.specs.declared.Session.{Session}
 use Rattle.commands_spec.specs.Respond.{respond, cardAfter}
-use Rattle.purse_spec.specs.History.{Call, start, send, Situation, limited, OfBytes, AllOfBytes, run, isStart, isInstall, next, afterCalls, Admissible, IsHistory}
-use Rattle.purse_spec.specs.Reasons.{limitOf, storesOf, cut}
+use Rattle.purse_spec.specs.History.{Call, start, send, Situation, limited, OfBytes, AllOfBytes, run, isStart, isInstall, next, afterCalls, Admissible, IsHistory, limitOf}
+use Rattle.purse_spec.specs.Reasons.{storesOf, cut}
 use Rattle.purse_spec.proofs.Typed.{Typed, typed-next}
 use Rattle.purse_spec.proofs.Counts.{stores-law}
 use Rattle.purse_spec.proofs.Answered.{exactly}

@@ -9,6 +9,7 @@ use lib.Dec.{eqb}
 use Rattle.octets.specs.Choice.{pick}
 use Rattle.octets.specs.Bytes.{AreBytes}
 use Rattle.session.specs.declared.Session.{Session}
+use Rattle.session.specs.Session.{unselected}
 use Rattle.purse_spec.specs.Calls.{Run}
 use Rattle.purse_spec.specs.Installation.{installation}
 use Rattle.purse_spec.specs.Startup.{startup}
@@ -26,11 +27,29 @@ pub record Situation : Type 0 where
   pub session : Session
   pub cut : Bool
 
+-- a call's limit
+unfoldable pub limitOf : Call → ℕ
+limitOf (install d limit) = limit
+limitOf (start limit) = limit
+limitOf (send bytes random area limit) = limit
+
 -- the same call with another limit
 unfoldable pub limited : ℕ → Call → Call
 limited L (install d limit) = install d L
 limited L (start limit) = start L
 limited L (send bytes random area limit) = send bytes random area L
+
+-- the session that a call is given; installation and start-up take none, nor a response area
+unfoldable pub sessionFor : Call → Situation → Session
+sessionFor (install d limit) st = unselected
+sessionFor (start limit) st = unselected
+sessionFor (send bytes random area limit) st = st .session
+
+-- the response area
+unfoldable pub areaFor : Call → List ℕ
+areaFor (install d limit) = []
+areaFor (start limit) = []
+areaFor (send bytes random area limit) = area
 
 -- what a call is given are bytes, as its slices have it by their types; the response area may hold anything
 unfoldable pub OfBytes : Call → Type 0

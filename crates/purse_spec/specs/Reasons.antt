@@ -9,7 +9,7 @@ use lib.ListN.{length}
 use Rattle.card.specs.Reading.{readCard}
 use Rattle.commands_spec.specs.Order.{Rule}
 use Rattle.purse_spec.specs.Calls.{awaits}
-use Rattle.purse_spec.specs.History.{Call, install, start, send, Situation, limited, run}
+use Rattle.purse_spec.specs.History.{Call, install, start, send, Situation, limitOf, limited, run}
 
 -- ---- rules in a row, which leave the answer to `rest` where no reason holds
 
@@ -58,12 +58,6 @@ reasons (send bytes random area limit) st rest =
     rest))))
 
 -- ---- the answer that is due
-
--- a call's limit
-unfoldable pub limitOf : Call → ℕ
-limitOf (install d limit) = limit
-limitOf (start limit) = limit
-limitOf (send bytes random area limit) = limit
 
 -- the stores that a call reports at limit 65,535, which cuts no run
 unfoldable pub storesOf : Call → Situation → ℕ

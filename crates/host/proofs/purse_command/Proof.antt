@@ -1,11 +1,13 @@
+-- `purse_command`: 1, 3 and 4 by search; 8 where the area reads as no session; else the purse's run in that session. Assumes nothing.
 use native.Mathlib.Omega.{arith}
 use borrow.Author.Tests.{not-true, not-false}
 use Rattle.octets.specs.Bytes.{AreBytes}
 use Rattle.octets.proofs.Rules.{rules}
 use Rattle.session.proofs.Reading.{unpacking-sized}
 use Rattle.session.proofs.Sizes.{Sized}
+use Rattle.purse_spec.specs.History.{send, OfBytes, run}
 use Rattle.host.specs.Host.{number, commandCall}
-use Rattle.host.proofs.Bounds.{command-small}
+use Rattle.host.proofs.Bounds.{run-small, situated}
 use Rattle.host.proofs.Outcomes.{gives-small, session-long, command-none, command-run}
 use borrow.Author.Needs.{needs}
 use Rattle.host.proofs.purse_command.Statement.{statement}
@@ -40,6 +42,7 @@ command-requires : tie.Need-command-requires
 command-requires c κs = search needs
 
 result-requires : tie.Need-result-requires
+unfolding run OfBytes
 result-requires c κs =
     let r = c .before .before .before .before .before in
     let t = r .before .before .before .before in
@@ -50,8 +53,9 @@ result-requires c κs =
     let f : AreBytes (a .session .now) = λ j. omega (arith, b .before .before .slice-known2 .given j) in
     let z : Sized (u .unpack .result .session) = rw (u .unpack .ensures) (unpacking-sized (a .session .now) f) in
     let s = gives-small _ _ _ _ (r .command .ensures)
-    (command-small (a .memory .now) (u .unpack .result .session) (a .command .now) (a .random .now) _ _ (λ j. omega (arith, k .slice-known .given j)) z
-    (λ j. omega (arith, b .before .shared-slice-known .given j)) (λ j. omega (arith, b .shared-slice-known2 .given j))) in (
+    (run-small (send (a .command .now) (a .random .now) (a .response .now) (a .limit)) (situated (a .memory .now) (u .unpack .result .session))
+    (record { memory = λ j. omega (arith, k .slice-known .given j); session = z })
+    (λ j. omega (arith, b .before .shared-slice-known .given j), λ j. omega (arith, b .shared-slice-known2 .given j))) in (
       session-long (a .memory .now) (a .session .now) (a .command .now) (a .random .now) (a .response .now) (a .limit) (u .unpack .result) (u .unpack .ensures) f
           (not-false _ (t .if4 .left)),
       s .0,

@@ -1,7 +1,9 @@
+-- `purse_install`: its two refusals by search; past them the purse's run, whose number has room (`run-small`). Assumes nothing.
 use native.Mathlib.Omega.{arith}
 use Rattle.octets.proofs.Rules.{rules}
+use Rattle.purse_spec.specs.History.{install, OfBytes, run}
 use Rattle.host.specs.Host.{number, lengthTested, installCall}
-use Rattle.host.proofs.Bounds.{installation-small}
+use Rattle.host.proofs.Bounds.{run-small, alone, alone-typed}
 use Rattle.host.proofs.Outcomes.{gives-small, tested}
 use borrow.Author.Needs.{needs}
 use Rattle.host.proofs.purse_install.Statement.{statement}
@@ -19,6 +21,7 @@ install-requires : tie.Need-install-requires
 install-requires c κs = search needs
 
 result-requires : tie.Need-result-requires
+unfolding run OfBytes
 result-requires c κs =
     let r = c .before .before .before in
     let i = r .before .before in
@@ -26,7 +29,8 @@ result-requires c κs =
     let m = b .before .before in
     let a = m .before .args in
     let s = gives-small _ _ _ _ (r .install .ensures)
-    (installation-small (a .memory .now) (a .bytes .now) _ (λ j. omega (arith, m .slice-known .given j)) (λ j. omega (arith, b .shared-slice-known .given j))) in
+    (run-small (install (a .bytes .now) (a .limit)) (alone (a .memory .now)) (alone-typed (a .memory .now) (λ j. omega (arith, m .slice-known .given j)))
+    (λ j. omega (arith, b .shared-slice-known .given j))) in
     (i .if2 .left, s .0, s .1)
 
 same-length : tie.Need-same-length

@@ -1,7 +1,9 @@
+-- `purse_start_up`: its two refusals by search; past them the purse's run, whose number has room (`run-small`). Assumes nothing.
 use native.Mathlib.Omega.{arith}
 use Rattle.octets.proofs.Rules.{rules}
+use Rattle.purse_spec.specs.History.{start, OfBytes, run}
 use Rattle.host.specs.Host.{number, lengthTested, startCall}
-use Rattle.host.proofs.Bounds.{startup-small}
+use Rattle.host.proofs.Bounds.{run-small, alone, alone-typed}
 use Rattle.host.proofs.Outcomes.{gives-small, tested}
 use borrow.Author.Needs.{needs}
 use Rattle.host.proofs.purse_start_up.Statement.{statement}
@@ -19,11 +21,13 @@ start-up-requires : tie.Need-start-up-requires
 start-up-requires c κs = search needs
 
 result-requires : tie.Need-result-requires
+unfolding run OfBytes
 result-requires c κs =
     let r = c .before .before .before in
     let i = r .before .before in
     let k = i .before .before .before in
-    let s = gives-small _ _ _ _ (r .start-up .ensures) (startup-small (k .before .args .memory .now) _ (λ i. omega (arith, k .slice-known .given i))) in
+    let s = gives-small _ _ _ _ (r .start-up .ensures)
+    (run-small (start (k .before .args .limit)) (alone (k .before .args .memory .now)) (alone-typed (k .before .args .memory .now) (λ i. omega (arith, k .slice-known .given i))) tt) in
     (i .if2 .left, s .0, s .1)
 
 same-length : tie.Need-same-length

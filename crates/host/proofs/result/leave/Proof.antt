@@ -1,3 +1,4 @@
+-- `leave`: the packed session over the whole area after 0, zeros after 7, else what it was. Assumes nothing.
 use Rattle.octets.proofs.Rules.{rules}
 use Rattle.host.specs.Host.{areaAfter}
 use Rattle.host.proofs.Outcomes.{area-packed, area-cleared}

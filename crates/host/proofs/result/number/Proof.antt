@@ -1,3 +1,4 @@
+-- `number`: no sum overflows, since size and count are small. Assumes nothing.
 use mathlib.Core.Path.{refl}
 use Rattle.host.specs.Host.{number}
 use borrow.Author.Needs.{needs}
