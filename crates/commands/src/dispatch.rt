@@ -20,7 +20,7 @@ use apdu::plain_status;
 use apdu::signed_status;
 use card::Head;
 use commands_spec::Outcome;
-use effects::refused;
+use objects::refused;
 use session::Session;
 use session::ended;
 
