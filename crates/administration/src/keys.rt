@@ -1,7 +1,7 @@
 // PUT KEY.
 ghost use mathlib.Core.Path.{_≡_};
 ghost use Rattle.channel.specs.Channel.{received};
-ghost use Rattle.session.specs.Packing.{setOf};
+ghost use Rattle.session.specs.Codes.{setOf};
 ghost use Rattle.commands_spec.specs.PutKey.{keySet, putKeyOf};
 ghost use Rattle.commands_spec.specs.Updates.{dekOf, withKeys};
 use crate::granting::granted;
@@ -17,7 +17,7 @@ use octets::part16;
 use rules::put_key_status;
 use session::Level;
 use session::Session;
-use session::access;
+use session::access::access;
 use session::ended;
 use session::set_of;
 

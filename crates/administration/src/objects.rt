@@ -12,7 +12,7 @@ use octets::word_at;
 use rules::put_data_status;
 use rules::value_ok;
 use session::Session;
-use session::access;
+use session::access::access;
 use session::ended;
 
 // Another value for a tag.

@@ -15,7 +15,7 @@ use effects::stored_all;
 use effects::within;
 use rules::store_status;
 use session::Session;
-use session::access;
+use session::access::access;
 use session::ended;
 
 // Whether sets 1 and 2 are defined.

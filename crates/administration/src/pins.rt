@@ -14,7 +14,7 @@ use effects::with_pin;
 use effects::with_tries;
 use rules::pin_status;
 use session::Session;
-use session::access;
+use session::access::access;
 use session::ended;
 use session::flagged;
 

@@ -27,7 +27,7 @@ use rules::initialize_status;
 use rules::lacks;
 use session::Pending;
 use session::Session;
-use session::access;
+use session::access::access;
 use session::answered;
 use session::ended;
 use session::has_rmac;

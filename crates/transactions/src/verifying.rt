@@ -17,7 +17,7 @@ use octets::empty;
 use octets::same;
 use rules::verify_status;
 use session::Session;
-use session::access;
+use session::access::access;
 use session::ended;
 use session::flagged;
 
