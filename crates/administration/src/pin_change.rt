@@ -14,7 +14,7 @@ use objects::with_pin;
 use objects::with_tries;
 use session::ADMIN;
 use session::Session;
-use session::access;
+use session::access::access;
 use session::ended;
 use session::flagged;
 

@@ -12,7 +12,7 @@ use objects::value_ok;
 use octets::word_at;
 use session::ADMIN;
 use session::Session;
-use session::access;
+use session::access::access;
 use session::ended;
 
 // What PUT DATA doesn't set.

@@ -2,7 +2,7 @@
 ghost use mathlib.Core.Path.{_≡_};
 ghost use Rattle.commands_spec.specs.PutKey.{keySet, putKeyOf, putKeyStatus};
 ghost use Rattle.channel.specs.Channel.{received};
-ghost use Rattle.session.specs.Packing.{setOf};
+ghost use Rattle.session.specs.Codes.{setOf};
 ghost use Rattle.commands_spec.specs.Updates.{dekOf, withKeys};
 use crate::answer::granted;
 use card::Head;
@@ -17,7 +17,7 @@ use octets::part16;
 use session::ADMIN;
 use session::Level;
 use session::Session;
-use session::access;
+use session::access::access;
 use session::ended;
 use session::set_of;
 

@@ -17,7 +17,7 @@ use objects::value_ok;
 use objects::with_parameters;
 use session::ADMIN;
 use session::Session;
-use session::access;
+use session::access::access;
 use session::ended;
 
 // STORE DATA; `inside` says that no TLV is past the end, `good` that the rest of the data is right.

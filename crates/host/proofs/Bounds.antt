@@ -12,7 +12,7 @@ use Rattle.octets.specs.Bytes.{AreBytes}
 use Rattle.octets.proofs.Rules.{pick-holds}
 use Rattle.stores.specs.Stores.{Store, answers, reports}
 use Rattle.session.specs.declared.Session.{Session}
-use Rattle.session.specs.Session.{unselected}
+use Rattle.session.specs.Transitions.{unselected}
 use Rattle.session.proofs.Sizes.{Sized, unselected-sized}
 use Rattle.commands_spec.specs.Respond.{respond}
 use Rattle.commands_spec.proofs.Sizes.{reply-short}

@@ -16,7 +16,7 @@ use Rattle.card.specs.Layout.{memorySize}
 use Rattle.session.specs.declared.Session.{Session}
 use Rattle.session.specs.Packing.{unpacked}
 use Rattle.session.proofs.Sizes.{Sized}
-use Rattle.session.proofs.Reading.{reads-back, reads-array, reads-sized}
+use Rattle.session.proofs.Reading.{reads-back, reads-octets, reads-sized}
 use Rattle.purse_spec.specs.Calls.{Run}
 use Rattle.purse_spec.specs.Installation.{installation}
 use Rattle.purse_spec.specs.Startup.{startup}
@@ -105,7 +105,7 @@ module _ (m area : List ℕ) (f : AreBytes m) (g : AreBytes area) where
     where
       by : (o : Option Session) → unpacked area ≡ o → o ≡ none
       by none e = refl
-      by (some s) e = absurd (w (reads-array area s e g .long))
+      by (some s) e = absurd (w (reads-octets area s e g .size))
 
   -- past 8 an area reads as a session
   pub session-read : ((length area ≡ 128 → ⊥) ⊎ (unpacked area ≡ none) → ⊥) → (s : Session) × (unpacked area ≡ some s)

@@ -15,7 +15,7 @@ use Rattle.stores.proofs.Limits.{not-seven-done, answers-done}
 use Rattle.card.specs.Card.{Card}
 use Rattle.card.specs.Changes.{installPlan}
 use Rattle.session.specs.declared.Session.{Session}
-use Rattle.session.specs.Session.{unselected}
+use Rattle.session.specs.Transitions.{unselected}
 use Rattle.commands_spec.specs.declared.outcome.Outcome.{Outcome}
 use Rattle.commands_spec.specs.Respond.{respond}
 use Rattle.purse_spec.specs.Calls.{Run, refusal}

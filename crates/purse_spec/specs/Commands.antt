@@ -15,7 +15,7 @@ use Rattle.card.specs.Layout.{memorySize}
 use Rattle.card.specs.Reading.{readCard}
 use Rattle.card.specs.Changes.{Change, plan}
 use Rattle.session.specs.declared.Session.{Session}
-use Rattle.session.specs.Session.{unselected}
+use Rattle.session.specs.Transitions.{unselected}
 use Rattle.commands_spec.specs.declared.outcome.Outcome.{Outcome}
 use Rattle.commands_spec.specs.Outcomes.{changesOf}
 use Rattle.commands_spec.specs.Respond.{respond}

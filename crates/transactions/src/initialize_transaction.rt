@@ -26,7 +26,7 @@ use session::CREDIT;
 use session::DEBIT;
 use session::Pending;
 use session::Session;
-use session::access;
+use session::access::access;
 use session::answered;
 use session::ended;
 use session::has_rmac;

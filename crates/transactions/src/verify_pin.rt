@@ -18,7 +18,7 @@ use octets::empty;
 use octets::same;
 use session::CREDIT;
 use session::Session;
-use session::access;
+use session::access::access;
 use session::ended;
 use session::flagged;
 
