@@ -14,7 +14,7 @@ use Rattle.card.specs.Layout.{memorySize}
 use Rattle.card.specs.Reading.{readable}
 use Rattle.card.proofs.Cards.{read-readable}
 use Rattle.session.specs.declared.Session.{Session}
-use Rattle.session.specs.Session.{unselected}
+use Rattle.session.specs.Transitions.{unselected}
 use Rattle.session.proofs.Sizes.{unselected-sized}
 use Rattle.purse_spec.specs.Calls.{Run}
 use Rattle.purse_spec.specs.History.{Call, install, start, send, Situation, OfBytes, AllOfBytes, run, isStart, isInstall, next, afterCalls, Admissible, IsHistory}

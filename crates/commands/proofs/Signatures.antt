@@ -7,7 +7,7 @@ use Rattle.octets.specs.Bytes.{part, same}
 use Rattle.octets.proofs.Rules.{and-right}
 use Rattle.card.specs.declared.head.Head.{Head}
 use Rattle.session.specs.declared.Session.{Session}
-use Rattle.session.specs.Session.{closed, chained}
+use Rattle.session.specs.Transitions.{closed, chained}
 use Rattle.session.specs.Access.{isOpen}
 use Rattle.apdu.specs.declared.parsing.Apdu.{Apdu}
 use Rattle.apdu.specs.declared.instructions.Signed.{Signed}

@@ -4,7 +4,7 @@ ghost use Rattle.apdu.specs.declared.parsing.Parsed.the-variants.{Command};
 ghost use Rattle.apdu.specs.Parsing.{parsed, dataOf};
 ghost use Rattle.apdu.specs.Instructions.{instruction};
 ghost use Rattle.apdu.specs.Early.{plainStatus, signedStatus};
-ghost use Rattle.session.specs.Session.{ended};
+ghost use Rattle.session.specs.Transitions.{ended};
 ghost use Rattle.commands_spec.specs.Outcomes.{decided};
 ghost use Rattle.commands_spec.specs.Respond.{plainOf, authorized, onInstruction, respondTo};
 use crate::plain::plain;
@@ -20,7 +20,7 @@ use apdu::plain_status;
 use apdu::signed_status;
 use card::Head;
 use commands_spec::Outcome;
-use effects::refused;
+use objects::refused;
 use session::Session;
 use session::ended;
 

@@ -10,17 +10,17 @@ ghost use Rattle.commands_spec.specs.Respond.{plainOf};
 ghost use Rattle.commands_spec.specs.Select.{selectOf};
 use apdu::Apdu;
 use apdu::Plain;
+use authentication::external_authenticate::external_authenticate;
+use authentication::initialize_update::initialize_update;
 use card::Head;
 use commands_spec::Outcome;
 use octets::part8;
 use octets::part16;
-use opening::external_authenticate;
-use opening::initialize_update;
-use queries::get_data;
-use queries::read_record;
-use queries::select;
+use queries::get_data::get_data;
+use queries::read_record::read_record;
+use queries::select::select;
 use session::Session;
-use transactions::verify_pin;
+use transactions::verify_pin::verify_pin;
 
 // SELECT, the one with data of any length.
 fn select_data(head: Head, session: Session, command: &[u8], lc: u8) -> Outcome

@@ -8,18 +8,18 @@ ghost use Rattle.apdu.specs.Lengths.{signedLength, macSize};
 ghost use Rattle.apdu.specs.Parsing.{parsed, dataOf};
 ghost use Rattle.commands_spec.specs.PinChange.{pinChangeOf};
 ghost use Rattle.commands_spec.specs.Respond.{signedOf, authorized};
-use administration::change_pin;
-use administration::put_data;
-use administration::put_key;
-use administration::store_data;
-use administration::unblock_pin;
+use administration::pin_change::change_pin;
+use administration::pin_change::unblock_pin;
+use administration::put_data::put_data;
+use administration::put_key::put_key;
+use administration::store_data::store_data;
 use apdu::Apdu;
 use apdu::MAC_SIZE;
 use apdu::Signed;
 use card::Head;
 use channel::cmac;
 use commands_spec::Outcome;
-use effects::refused;
+use objects::refused;
 use octets::part4;
 use octets::part8;
 use octets::part16;
@@ -29,8 +29,8 @@ use session::Session;
 use session::chained;
 use session::closed;
 use session::is_open;
-use transactions::complete_transaction;
-use transactions::initialize_transaction;
+use transactions::complete_transaction::complete_transaction;
+use transactions::initialize_transaction::initialize_transaction;
 
 // PIN CHANGE/UNBLOCK: a PIN, or no data before the C-MAC.
 fn pin_data(head: Head, session: Session, a: Apdu, command: &[u8]) -> Outcome
@@ -78,11 +78,11 @@ pub fn authorized(g: Signed, head: Head, session: Session, a: Apdu, command: &[u
     let level = channel.level;
     let key = channel.mac;
     let start = channel.cmac;
-    let n = (a.lc - MAC_SIZE) as usize;
-    let mac = cmac(key, start, command, 5 + n);
     if !is_open(level) {
         return refused(head, closed(session), 0x6982);
     }
+    let n = (a.lc - MAC_SIZE) as usize;
+    let mac = cmac(key, start, command, 5 + n);
     let sent = part8(command, 5 + n);
     if !same(&sent, &mac) {
         return refused(head, closed(session), 0x6982);

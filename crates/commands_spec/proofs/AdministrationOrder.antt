@@ -25,7 +25,7 @@ use Rattle.card.proofs.Pins.{block-formed, formed-block}
 use Rattle.session.specs.declared.Set.{Set}
 use Rattle.session.specs.declared.Level.{Level}
 use Rattle.session.specs.declared.Session.{Session}
-use Rattle.session.specs.Session.{chained}
+use Rattle.session.specs.Transitions.{chained}
 use Rattle.session.specs.Access.{accessOf, ADMIN}
 use Rattle.apdu.specs.declared.instructions.Signed.the-variants.{PutKey, PinChange, StoreData, PutData}
 use Rattle.apdu.specs.Instructions.{instruction, of84}

@@ -18,7 +18,7 @@ use Rattle.card.specs.Changes.{parameters, changed}
 use Rattle.session.specs.declared.Set.{Set}
 use Rattle.session.specs.declared.Level.{Level}
 use Rattle.session.specs.declared.Session.{Session}
-use Rattle.session.specs.Session.{ended, chained}
+use Rattle.session.specs.Transitions.{ended, chained}
 use Rattle.session.specs.Access.{access, isOpen, ADMIN}
 use Rattle.apdu.specs.declared.instructions.Signed.the-variants.{StoreData}
 use Rattle.apdu.specs.Instructions.{instruction, of84}

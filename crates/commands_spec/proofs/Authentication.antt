@@ -26,8 +26,8 @@ use Rattle.session.specs.declared.Level.{Level}
 use Rattle.session.specs.declared.Pending.{Pending}
 use Rattle.session.specs.declared.Pending.the-variants.{Nothing, Update, Debiting, Crediting}
 use Rattle.session.specs.declared.Session.{Session}
-use Rattle.session.specs.Session.{offered, opened}
-use Rattle.session.specs.Packing.{setOf}
+use Rattle.session.specs.Transitions.{offered, opened}
+use Rattle.session.specs.Codes.{setOf}
 use Rattle.apdu.specs.declared.instructions.Plain.the-variants.{InitializeUpdate, ExternalAuthenticate}
 use Rattle.apdu.specs.Instructions.{instruction, of80, of84}
 use Rattle.apdu.specs.Parameters.{isSet, plainParameters, hasRecord}

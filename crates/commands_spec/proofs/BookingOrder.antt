@@ -26,9 +26,9 @@ use Rattle.session.specs.declared.Level.the-variants.{Closed, Mac, Rmac}
 use Rattle.session.specs.declared.Pending.{Pending}
 use Rattle.session.specs.declared.Pending.the-variants.{Nothing, Update, Debiting, Crediting}
 use Rattle.session.specs.declared.Session.{Session}
-use Rattle.session.specs.Session.{ended, chained}
+use Rattle.session.specs.Transitions.{ended, chained}
 use Rattle.session.specs.Access.{access, accessOf, hasRmac, CREDIT}
-use Rattle.session.specs.Packing.{amountOf}
+use Rattle.session.specs.Codes.{amountOf}
 use Rattle.apdu.specs.declared.instructions.Plain.the-variants.{VerifyPin}
 use Rattle.apdu.specs.declared.instructions.Signed.the-variants.{InitializeTransaction, CompleteTransaction}
 use Rattle.apdu.specs.Instructions.{instruction, of94}

@@ -16,7 +16,7 @@ use Rattle.card.specs.Card.{Card, void}
 use Rattle.session.specs.declared.Set.{Set}
 use Rattle.session.specs.declared.Pending.the-variants.{Update}
 use Rattle.session.specs.declared.Session.{Session}
-use Rattle.session.specs.Session.{ended}
+use Rattle.session.specs.Transitions.{ended}
 use Rattle.apdu.specs.declared.parsing.Apdu.{Apdu}
 use Rattle.apdu.specs.declared.parsing.Parsed.{Parsed}
 use Rattle.apdu.specs.declared.parsing.Parsed.the-variants.{Command, WrongLength}

@@ -14,7 +14,7 @@ use Rattle.card.proofs.Pins.{block-bytes, block-formed}
 use Rattle.session.specs.declared.Set.the-variants.{Admin}
 use Rattle.session.specs.declared.Level.{Level}
 use Rattle.session.specs.declared.Session.{Session}
-use Rattle.session.specs.Session.{chained, flagged}
+use Rattle.session.specs.Transitions.{chained, flagged}
 use Rattle.apdu.specs.declared.instructions.Signed.the-variants.{PinChange}
 use Rattle.apdu.specs.Instructions.{instruction, of84}
 use Rattle.apdu.specs.Parameters.{are, signedParameters}

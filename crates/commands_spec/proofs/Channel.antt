@@ -25,9 +25,9 @@ use Rattle.session.specs.declared.Channel.{Channel}
 use Rattle.session.specs.declared.Pending.{Pending}
 use Rattle.session.specs.declared.Pending.the-variants.{Nothing, Update, Debiting, Crediting}
 use Rattle.session.specs.declared.Session.{Session}
-use Rattle.session.specs.Session.{ended, closed, reselected, flagged, offered, opened, chained, answered}
+use Rattle.session.specs.Transitions.{ended, closed, reselected, flagged, offered, opened, chained, answered}
 use Rattle.session.specs.Access.{isOpen}
-use Rattle.session.specs.Packing.{setOf}
+use Rattle.session.specs.Codes.{setOf}
 use Rattle.session.proofs.WhoMay.{open-or-not}
 use Rattle.channel.specs.Channel.{cmacOf, rmacOf}
 use Rattle.channel.proofs.Spelled.{signature-long}

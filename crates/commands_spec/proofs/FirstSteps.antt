@@ -16,7 +16,7 @@ use Rattle.octets.proofs.Holding.{content-holding}
 use Rattle.card.specs.Card.{Card, void}
 use Rattle.session.specs.declared.Pending.the-variants.{Nothing}
 use Rattle.session.specs.declared.Session.{Session}
-use Rattle.session.specs.Session.{ended}
+use Rattle.session.specs.Transitions.{ended}
 use Rattle.apdu.specs.declared.parsing.Apdu.{Apdu}
 use Rattle.apdu.specs.declared.parsing.Parsed.the-variants.{WrongLength}
 use Rattle.apdu.specs.declared.instructions.Plain.{Plain}

@@ -27,9 +27,9 @@ use Rattle.session.specs.declared.Level.the-variants.{Rmac}
 use Rattle.session.specs.declared.Pending.{Pending}
 use Rattle.session.specs.declared.Pending.the-variants.{Debiting, Crediting}
 use Rattle.session.specs.declared.Session.{Session}
-use Rattle.session.specs.Session.{chained, answered}
+use Rattle.session.specs.Transitions.{chained, answered}
 use Rattle.session.specs.Access.{access, hasRmac, isOpen}
-use Rattle.session.specs.Packing.{amountOf}
+use Rattle.session.specs.Codes.{amountOf}
 use Rattle.apdu.specs.declared.instructions.Signed.the-variants.{InitializeTransaction, CompleteTransaction}
 use Rattle.apdu.specs.Instructions.{instruction, of94}
 use Rattle.apdu.specs.Parameters.{are, signedParameters}

@@ -13,8 +13,8 @@ use Rattle.card.specs.Changes.{state, entry, changed}
 use Rattle.session.specs.declared.Pending.{Pending}
 use Rattle.session.specs.declared.Pending.the-variants.{Nothing, Update, Debiting, Crediting}
 use Rattle.session.specs.declared.Session.{Session}
-use Rattle.session.specs.Session.{chained}
-use Rattle.session.specs.Packing.{amountOf}
+use Rattle.session.specs.Transitions.{chained}
+use Rattle.session.specs.Codes.{amountOf}
 use Rattle.apdu.specs.declared.instructions.Signed.the-variants.{CompleteTransaction}
 use Rattle.apdu.specs.declared.instructions.Instruction.the-variants.{IsSigned}
 use Rattle.commands_spec.specs.declared.outcome.Outcome.{Outcome}

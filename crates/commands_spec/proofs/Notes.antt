@@ -13,7 +13,7 @@ use Rattle.octets.proofs.Rules.{pick-holds}
 use Rattle.card.specs.Card.{Card}
 use Rattle.session.specs.declared.Pending.{Pending}
 use Rattle.session.specs.declared.Session.{Session}
-use Rattle.session.specs.Session.{chained}
+use Rattle.session.specs.Transitions.{chained}
 use Rattle.apdu.specs.declared.instructions.Plain.the-variants.{Select, InitializeUpdate, ExternalAuthenticate, VerifyPin, GetData, ReadRecord}
 use Rattle.apdu.specs.declared.instructions.Signed.the-variants.{PutKey, PinChange, StoreData, InitializeTransaction, CompleteTransaction, PutData}
 use Rattle.apdu.specs.declared.instructions.Instruction.{Instruction}

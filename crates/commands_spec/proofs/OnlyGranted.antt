@@ -18,7 +18,7 @@ use Rattle.session.specs.declared.Set.{Set}
 use Rattle.session.specs.declared.Level.{Level}
 use Rattle.session.specs.declared.Level.the-variants.{Closed, Mac, Rmac}
 use Rattle.session.specs.declared.Session.{Session}
-use Rattle.session.specs.Session.{ended, closed, chained}
+use Rattle.session.specs.Transitions.{ended, closed, chained}
 use Rattle.session.specs.Access.{access, accessOf, hasRmac}
 use Rattle.apdu.specs.declared.instructions.Signed.{Signed}
 use Rattle.apdu.specs.declared.instructions.Signed.the-variants.{PutKey, PinChange, StoreData, InitializeTransaction, CompleteTransaction, PutData}

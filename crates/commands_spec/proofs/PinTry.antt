@@ -12,7 +12,7 @@ use Rattle.octets.specs.Choice.{pick}
 use Rattle.octets.specs.Bytes.{byteAt}
 use Rattle.card.specs.Card.{Card, void}
 use Rattle.session.specs.declared.Session.{Session}
-use Rattle.session.specs.Session.{ended}
+use Rattle.session.specs.Transitions.{ended}
 use Rattle.apdu.specs.declared.parsing.Apdu.{Apdu}
 use Rattle.apdu.specs.declared.parsing.Parsed.{Parsed}
 use Rattle.apdu.specs.declared.instructions.Plain.the-variants.{VerifyPin}

@@ -7,10 +7,11 @@ use native.Mathlib.Omega.{arith}
 use borrow.Author.Tests.{eqb-true, eqb-false}
 use lib.Dec.{eqb}
 use lib.ListN.{length, getD, take}
-use Rattle.octets.specs.Bytes.{AreBytes, zeros, byteAt, part, same}
+use Rattle.octets.specs.Bytes.{AreBytes, Octets, zeros, byteAt, part, same}
 use Rattle.octets.specs.Words.{wordAt}
 use Rattle.octets.proofs.Parts.{length-part}
 use Rattle.octets.proofs.Ranges.{part-bytes}
+use Rattle.octets.proofs.Octets.{append-octets, word-octets, part-octets}
 use Rattle.octets.proofs.Rules.{pick-holds}
 use Rattle.card.specs.declared.head.Head.{Head}
 use Rattle.card.specs.Card.{Card, void}
@@ -21,9 +22,9 @@ use Rattle.card.proofs.Done.{proper-fills}
 use Rattle.session.specs.declared.Pending.{Pending}
 use Rattle.session.specs.declared.Pending.the-variants.{Nothing, Update, Debiting, Crediting}
 use Rattle.session.specs.declared.Session.{Session}
-use Rattle.session.specs.Session.{ended, closed, flagged, chained}
-use Rattle.session.specs.Packing.{setOf, amountOf}
-use Rattle.session.proofs.Sizes.{Array, Sized}
+use Rattle.session.specs.Transitions.{ended, closed, flagged, chained}
+use Rattle.session.specs.Codes.{setOf, amountOf}
+use Rattle.session.proofs.Sizes.{Sized}
 use Rattle.channel.specs.Channel.{cmacOf, received}
 use Rattle.channel.proofs.Results.{length-received, bytes-received}
 use Rattle.apdu.specs.declared.instructions.Plain.{Plain}
@@ -57,7 +58,7 @@ use Rattle.commands_spec.proofs.Judgements.{complete-passed, pin-formed
 use Rattle.commands_spec.proofs.Ways.{changes}
 use Rattle.commands_spec.proofs.Moves.{moved-balance}
 use Rattle.commands_spec.proofs.Facts.{Facts, facts}
-use Rattle.commands_spec.proofs.Arrays.{joined, word-array, part-array, as-bytes}
+use Rattle.commands_spec.proofs.Arrays.{as-bytes}
 use Rattle.commands_spec.proofs.Sizes.{Sound, chain-sized}
 use Rattle.commands_spec.proofs.ProperChanges.{Fair, state-proper, pin-proper, entry-proper, parameters-proper, card-settled}
 use Rattle.commands_spec.proofs.Settings.{same-itself, all-kept}
@@ -230,7 +231,7 @@ module _ (c : Card) (s : Session) (command random : List ℕ) (i : Sound c s com
     unfolding initializeTransactionOf
     initialize-along p1 body = decided-either A _ _ _ _ (λ e. tells _ _) (refusal _ _)
 
-    complete-along : (context : List ℕ) → Array 16 context → A (completeTransactionOf H t context)
+    complete-along : (context : List ℕ) → Octets 16 context → A (completeTransactionOf H t context)
     unfolding completeTransactionOf completeJudged changesOf withState booked logRecord
     complete-along context a =
         decided-either A _ _ _ _
@@ -241,9 +242,9 @@ module _ (c : Card) (s : Session) (command random : List ℕ) (i : Sound c s com
         let q : H .shared .maxnumber < 65536 = i .proper .sized .maxnumber in
         let x : H .purse .parameters .maxbalance ≤ 32767 = f .maxbalance in
         let b = moved-balance (t .pending) (H .state .balance) (H .purse .parameters .maxbalance) (k .pending) (k .within) .1 (f .balance) in
-        let l = joined (joined (joined (joined (word-array (H .state .number + 1) (omega arith)) (word-array (H .purse .parameters .currency) (i .proper .sized .currency)))
-        (word-array (logAmount (isDebit (t .pending)) (amountOf (t .pending))) (log-small (isDebit (t .pending)) (amountOf (t .pending)) (z .amount))))
-        (word-array (newBalance (isDebit (t .pending)) (amountOf (t .pending)) (H .state .balance)) (omega arith))) a in
+        let l = append-octets (append-octets (append-octets (append-octets (word-octets (H .state .number + 1) (omega arith)) (word-octets (H .purse .parameters .currency) (i .proper .sized .currency)))
+        (word-octets (logAmount (isDebit (t .pending)) (amountOf (t .pending))) (log-small (isDebit (t .pending)) (amountOf (t .pending)) (z .amount))))
+        (word-octets (newBalance (isDebit (t .pending)) (amountOf (t .pending)) (H .state .balance)) (omega arith))) a in
         (i .proper, entry-proper c (i .proper) _ _ (record { tries = f .tries; balance = b; number = omega arith }) (as-bytes l) (k .personal)))
         (refusal _ _)
 
@@ -260,7 +261,7 @@ module _ (c : Card) (s : Session) (command random : List ℕ) (i : Sound c s com
     signed-along CompleteTransaction lc f =
         let n : lc ≡ 24 = eqb-true lc 24 (f .long) in
         let w = f .within (omega arith) in
-        rw n (complete-along (dataOf command 16) (part-array command 5 16 (i .bytes) (omega arith)))
+        rw n (complete-along (dataOf command 16) (part-octets command 5 16 (i .bytes) (omega arith)))
     signed-along PutData lc f = put-data-along (byteAt command 3) _ (body-bytes (lc - macSize))
 
   along : A (respond c s command random)

@@ -14,7 +14,7 @@ use Rattle.card.specs.Card.{Card}
 use Rattle.session.specs.declared.Set.the-variants.{Admin}
 use Rattle.session.specs.declared.Level.{Level}
 use Rattle.session.specs.declared.Session.{Session}
-use Rattle.session.specs.Session.{chained}
+use Rattle.session.specs.Transitions.{chained}
 use Rattle.apdu.specs.declared.instructions.Plain.the-variants.{GetData}
 use Rattle.apdu.specs.declared.instructions.Signed.the-variants.{PutData}
 use Rattle.apdu.specs.Instructions.{instruction, of80, of84}

@@ -23,8 +23,8 @@ use Rattle.session.specs.declared.Set.{Set}
 use Rattle.session.specs.declared.Set.the-variants.{Admin}
 use Rattle.session.specs.declared.Level.{Level}
 use Rattle.session.specs.declared.Session.{Session}
-use Rattle.session.specs.Session.{chained}
-use Rattle.session.specs.Packing.{setOf}
+use Rattle.session.specs.Transitions.{chained}
+use Rattle.session.specs.Codes.{setOf}
 use Rattle.apdu.specs.declared.instructions.Signed.the-variants.{PutKey}
 use Rattle.apdu.specs.Instructions.{instruction, of84}
 use Rattle.apdu.specs.Parameters.{isSet, signedParameters}

@@ -15,7 +15,7 @@ use Rattle.card.specs.Card.{Card, void}
 use Rattle.session.specs.declared.Level.the-variants.{Closed}
 use Rattle.session.specs.declared.Pending.the-variants.{Nothing}
 use Rattle.session.specs.declared.Session.{Session}
-use Rattle.session.specs.Session.{reselected}
+use Rattle.session.specs.Transitions.{reselected}
 use Rattle.apdu.specs.declared.instructions.Plain.the-variants.{Select, GetData, ReadRecord}
 use Rattle.apdu.specs.Instructions.{instruction, of00, of80}
 use Rattle.apdu.specs.Parameters.{are, plainParameters, hasRecord}

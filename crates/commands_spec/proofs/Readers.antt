@@ -12,8 +12,8 @@ use Rattle.card.specs.Card.{Card, void}
 use Rattle.session.specs.declared.Pending.{Pending}
 use Rattle.session.specs.declared.Pending.the-variants.{Nothing, Update, Debiting, Crediting}
 use Rattle.session.specs.declared.Session.{Session}
-use Rattle.session.specs.Session.{closed, ended, chained}
-use Rattle.session.specs.Packing.{setOf}
+use Rattle.session.specs.Transitions.{closed, ended, chained}
+use Rattle.session.specs.Codes.{setOf}
 use Rattle.channel.specs.Channel.{cmacOf}
 use Rattle.apdu.specs.declared.instructions.Plain.{Plain}
 use Rattle.apdu.specs.declared.instructions.Plain.the-variants.{Select, InitializeUpdate, ExternalAuthenticate, VerifyPin, GetData, ReadRecord}

@@ -18,7 +18,7 @@ use Rattle.des_spec.proofs.Signature.{length-signature}
 use Rattle.card.specs.Card.{Card, void}
 use Rattle.session.specs.declared.Level.{Level}
 use Rattle.session.specs.declared.Session.{Session}
-use Rattle.session.specs.Session.{chained}
+use Rattle.session.specs.Transitions.{chained}
 use Rattle.session.specs.Access.{isOpen}
 use Rattle.apdu.specs.declared.instructions.Plain.{Plain}
 use Rattle.apdu.specs.declared.instructions.Signed.{Signed}

@@ -9,13 +9,14 @@ use native.Mathlib.Nat.{min-le-left, min-le-right}
 use borrow.Author.Tests.{eqb-true, leb-true}
 use lib.Dec.{leb, eqb}
 use lib.ListN.{length, getD, take, length-append, length-take}
-use Rattle.octets.specs.Bytes.{AreBytes, zeros, byteAt, part, same}
+use Rattle.octets.specs.Bytes.{AreBytes, Octets, zeros, byteAt, part, same}
 use Rattle.octets.specs.Words.{word, wordAt}
 use Rattle.octets.specs.Buffers.{content}
 use Rattle.octets.proofs.Conditions.{and-both}
 use Rattle.octets.proofs.Parts.{length-part}
 use Rattle.octets.proofs.Numbers.{word-at-below}
 use Rattle.octets.proofs.Ranges.{none-bytes, append-bytes, part-bytes, zeros-bytes}
+use Rattle.octets.proofs.Octets.{append-octets, zeros-octets, word-octets}
 use Rattle.octets.proofs.Holding.{content-holding}
 use Rattle.octets.proofs.Rules.{pick-holds}
 use Rattle.card.specs.declared.head.Head.{Head}
@@ -24,9 +25,9 @@ use Rattle.card.specs.Proper.{Proper}
 use Rattle.session.specs.declared.Pending.{Pending}
 use Rattle.session.specs.declared.Pending.the-variants.{Nothing, Update, Debiting, Crediting}
 use Rattle.session.specs.declared.Session.{Session}
-use Rattle.session.specs.Session.{ended, closed, chained}
-use Rattle.session.specs.Packing.{setOf, amountOf}
-use Rattle.session.proofs.Sizes.{Array, SizedOffer, Sized, zeros-array, ended-sized, closed-sized, reselected-sized, flagged-sized, offered-sized, opened-sized, chained-sized, answered-sized}
+use Rattle.session.specs.Transitions.{ended, closed, chained}
+use Rattle.session.specs.Codes.{setOf, amountOf}
+use Rattle.session.proofs.Sizes.{SizedOffer, Sized, ended-sized, closed-sized, reselected-sized, flagged-sized, offered-sized, opened-sized, chained-sized, answered-sized}
 use Rattle.channel.specs.Channel.{cmacOf, rmacOf, bankSent}
 use Rattle.channel.proofs.Results.{length-sessionKey, length-cardCryptogram, length-hostCryptogram, length-cmacOf, length-rmacOf, length-bankSent, bytes-sessionKey, bytes-hostCryptogram, bytes-cmacOf, bytes-rmacOf, bytes-bankSent}
 use Rattle.apdu.specs.declared.instructions.Plain.{Plain}
@@ -62,14 +63,14 @@ use Rattle.commands_spec.proofs.Ways.{completedHead, completedAnswer}
 use Rattle.commands_spec.proofs.Words.{status-listed}
 use Rattle.commands_spec.proofs.Moves.{moved-balance}
 use Rattle.commands_spec.proofs.Facts.{facts}
-use Rattle.commands_spec.proofs.Arrays.{joined, word-array, as-array}
+use Rattle.commands_spec.proofs.Arrays.{as-octets}
 
 -- what a call's types promise of its card, session, command and random bytes
 pub record Sound (c : Card) (s : Session) (command random : List ℕ) : Type 0 where
   pub proper : Proper c
   pub sized : Sized s
   pub bytes : AreBytes command
-  pub drawn : Array 8 random
+  pub drawn : Octets 8 random
 
 -- a short reply, and a session as its struct has it
 pub record Fits (o : Outcome) : Type 0 where
@@ -158,18 +159,18 @@ module _ (c : Card) (p : Proper c) where
       (omega arith, append-bytes i [] (p .sized .identifier .each) none-bytes))
 
 -- what COMPLETE TRANSACTION sends, of a head whose numbers are small
-complete-answer : (h : Head) → Array 4 (h .purse .parameters .identifier) → h .purse .parameters .currency < 65536 → h .shared .maxnumber < 65536
-    → h .state .number < 65536 → h .state .balance < 65536 → h .purse .parameters .maxbalance < 65536 → Array 16 (completeAnswer h)
+complete-answer : (h : Head) → Octets 4 (h .purse .parameters .identifier) → h .purse .parameters .currency < 65536 → h .shared .maxnumber < 65536
+    → h .state .number < 65536 → h .state .balance < 65536 → h .purse .parameters .maxbalance < 65536 → Octets 16 (completeAnswer h)
 unfolding completeAnswer operational
 complete-answer h i c m n x y =
     let k = min-le-left (h .state .balance) (h .purse .parameters .maxdebit) in
-    joined (joined i (word-array (h .state .number) n))
-    (joined (joined (joined (joined
-    (word-array (h .shared .maxnumber - h .state .number) (omega arith))
-    (word-array (h .purse .parameters .currency) c))
-    (word-array (h .state .balance) x))
-    (word-array (min (h .state .balance) (h .purse .parameters .maxdebit)) (omega arith)))
-    (word-array (h .purse .parameters .maxbalance - h .state .balance) (omega arith)))
+    append-octets (append-octets i (word-octets (h .state .number) n))
+    (append-octets (append-octets (append-octets (append-octets
+    (word-octets (h .shared .maxnumber - h .state .number) (omega arith))
+    (word-octets (h .purse .parameters .currency) c))
+    (word-octets (h .state .balance) x))
+    (word-octets (min (h .state .balance) (h .purse .parameters .maxdebit)) (omega arith)))
+    (word-octets (h .purse .parameters .maxbalance - h .state .balance) (omega arith)))
 
 noted-small : (p1 amount : ℕ) → amount < 65536 → amountOf (noted p1 amount) < 65536
 unfolding noted amountOf
@@ -189,10 +190,10 @@ module _ (c : Card) (s : Session) (command random : List ℕ) (i : Sound c s com
   authenticate-fits (Update set) p1 body =
       let mac = cmacOf (s .offer .mac) (zeros 8) command 13 in
       let o = i .sized .offer in
-      let m : Array 8 mac = record { long = length-cmacOf (s .offer .mac) (zeros 8) command 13 refl; bytes = bytes-cmacOf (s .offer .mac) (zeros 8) command 13 (zeros-bytes 8) (i .bytes) } in
+      let m : Octets 8 mac = record { size = length-cmacOf (s .offer .mac) (zeros 8) command 13 refl; each = bytes-cmacOf (s .offer .mac) (zeros 8) command 13 (zeros-bytes 8) (i .bytes) } in
       pick-holds Fits (not (same (part body 0 8) (s .offer .expected))) _ _ (λ t. refused-fits B (closed s) 0x6300 (closed-sized (i .sized)))
       (λ t. pick-holds Fits (not (same (part body 8 8) mac)) _ _ (λ u. refused-fits B (closed s) 0x6982 (closed-sized (i .sized)))
-      (λ u. done-fits _ B _ [] (opened-sized (i .sized) (record { enc = o .enc; mac = o .mac; cmac = m; rmac = zeros-array 8 })) (omega arith)))
+      (λ u. done-fits _ B _ [] (opened-sized (i .sized) (record { enc = o .enc; mac = o .mac; cmac = m; rmac = zeros-octets 8 })) (omega arith)))
   authenticate-fits Nothing p1 body = early-fits 0x6985
   authenticate-fits (Debiting n) p1 body = early-fits 0x6985
   authenticate-fits (Crediting n) p1 body = early-fits 0x6985
@@ -209,13 +210,13 @@ module _ (c : Card) (s : Session) (command random : List ℕ) (i : Sound c s com
       let host = dataOf command lc in
       let n : length host ≡ 8 = length-part command 5 lc (w (omega arith)) ∙ k in
       let f : AreBytes host = part-bytes command 5 lc (i .bytes) in
-      let m = i .drawn .long in
-      let g = i .drawn .bytes in
+      let m = i .drawn .size in
+      let g = i .drawn .each in
       let t = keysOf (setOf p1) B in
       let o : SizedOffer (offer t host random) = record {
-        enc = record { long = length-sessionKey (t .enc) host random n m; bytes = bytes-sessionKey (t .enc) host random f g };
-        mac = record { long = length-sessionKey (t .mac) host random n m; bytes = bytes-sessionKey (t .mac) host random f g };
-        expected = record { long = length-hostCryptogram _ host random; bytes = bytes-hostCryptogram _ host random f g };
+        enc = record { size = length-sessionKey (t .enc) host random n m; each = bytes-sessionKey (t .enc) host random f g };
+        mac = record { size = length-sessionKey (t .mac) host random n m; each = bytes-sessionKey (t .mac) host random f g };
+        expected = record { size = length-hostCryptogram _ host random; each = bytes-hostCryptogram _ host random f g };
       } in
       pick-holds Fits (not (t .defined)) _ _ (λ e. early-fits 0x6A88)
       (λ e. done-fits _ B _ _ (offered-sized (i .sized) (setOf p1) o) (let q = length-cardCryptogram (offer t host random .enc) host random in simp (length-append, m, q) (omega arith)))
@@ -246,8 +247,8 @@ module _ (c : Card) (s : Session) (command random : List ℕ) (i : Sound c s com
       let k = i .sized .channel in
       chained-sized (i .sized)
       (record {
-        long = length-cmacOf (s .channel .mac) (s .channel .cmac) command (5 + (lc - macSize)) (k .cmac .long);
-        bytes = bytes-cmacOf (s .channel .mac) (s .channel .cmac) command (5 + (lc - macSize)) (k .cmac .bytes) (i .bytes);
+        size = length-cmacOf (s .channel .mac) (s .channel .cmac) command (5 + (lc - macSize)) (k .cmac .size);
+        each = bytes-cmacOf (s .channel .mac) (s .channel .cmac) command (5 + (lc - macSize)) (k .cmac .each) (i .bytes);
       })
 
   module _ (t : Session) (z : Sized t) where
@@ -255,12 +256,12 @@ module _ (c : Card) (s : Session) (command random : List ℕ) (i : Sound c s com
     still-fits w = refused-fits B (ended t) w (ended-sized z)
 
     -- the R-MAC of an answer
-    rmac-array : (answer : List ℕ) → AreBytes answer → Array 8 (rmacOf (t .channel .mac) (t .channel .rmac) (t .channel .cmac) answer)
-    rmac-array answer f =
+    rmac-octets : (answer : List ℕ) → AreBytes answer → Octets 8 (rmacOf (t .channel .mac) (t .channel .rmac) (t .channel .cmac) answer)
+    rmac-octets answer f =
         let k = z .channel in
         record {
-          long = length-rmacOf (t .channel .mac) (t .channel .rmac) (t .channel .cmac) answer (k .rmac .long);
-          bytes = bytes-rmacOf (t .channel .mac) (t .channel .rmac) (t .channel .cmac) answer (k .rmac .bytes) (k .cmac .bytes) f;
+          size = length-rmacOf (t .channel .mac) (t .channel .rmac) (t .channel .cmac) answer (k .rmac .size);
+          each = bytes-rmacOf (t .channel .mac) (t .channel .rmac) (t .channel .cmac) answer (k .rmac .each) (k .cmac .each) f;
         }
 
     initialize-fits : (p1 : ℕ) (body : List ℕ) → AreBytes body → Fits (initializeTransactionOf B t p1 body)
@@ -268,10 +269,10 @@ module _ (c : Card) (s : Session) (command random : List ℕ) (i : Sound c s com
     initialize-fits p1 body f =
         let answer = initializeAnswer B t p1 in
         let a = initialize-answer c (i .proper) t p1 in
-        let m = rmac-array answer (a .1) in
+        let m = rmac-octets answer (a .1) in
         let n : length answer ≤ 20 = a .0 in
         let k = length-append answer (rmacOf (t .channel .mac) (t .channel .rmac) (t .channel .cmac) answer) in
-        let l = m .long in
+        let l = m .size in
         decided-either Fits _ _ _ _
         (λ e. done-fits _ B _ _ (answered-sized z (noted p1 (wordAt body 2)) (noted-small p1 (wordAt body 2) (word-at-below body 2 f)) m) (omega arith))
         (still-fits _)
@@ -289,9 +290,9 @@ module _ (c : Card) (s : Session) (command random : List ℕ) (i : Sound c s com
         let b = moved-balance (t .pending) (B .state .balance) (B .purse .parameters .maxbalance) (f .pending) (f .within) .1 (g .balance) in
         let n = completedHead B t in
         let answer = completeAnswer n in
-        let a : Array 16 answer = complete-answer n (as-array (i .proper .sized .identifier)) (i .proper .sized .currency) q (omega arith) (omega arith) (omega arith) in
-        let m = rmac-array answer (a .bytes) in
-        let l = joined (joined a m) (word-array 0x9000 (omega arith)) .long in
+        let a : Octets 16 answer = complete-answer n (as-octets (i .proper .sized .identifier)) (i .proper .sized .currency) q (omega arith) (omega arith) (omega arith) in
+        let m = rmac-octets answer (a .each) in
+        let l = append-octets (append-octets a m) (word-octets 0x9000 (omega arith)) .size in
         let k = content-holding (completedAnswer B t ++ word 0x9000) in
         record { short = rw k (omega arith); session = answered-sized z Nothing (omega arith) m })
         (still-fits _)

@@ -15,7 +15,7 @@ use Rattle.octets.proofs.Rules.{passed, pick-holds}
 use Rattle.card.specs.declared.head.Head.{Head}
 use Rattle.card.specs.Card.{Card, void}
 use Rattle.session.specs.declared.Session.{Session}
-use Rattle.session.specs.Session.{ended, closed, chained}
+use Rattle.session.specs.Transitions.{ended, closed, chained}
 use Rattle.session.specs.Access.{isOpen}
 use Rattle.apdu.specs.declared.parsing.Apdu.{Apdu}
 use Rattle.apdu.specs.declared.parsing.Parsed.{Parsed}

@@ -12,7 +12,7 @@ use Rattle.card.specs.Card.{Card}
 use Rattle.session.specs.declared.Set.the-variants.{Admin}
 use Rattle.session.specs.declared.Level.{Level}
 use Rattle.session.specs.declared.Session.{Session}
-use Rattle.session.specs.Session.{ended, chained}
+use Rattle.session.specs.Transitions.{ended, chained}
 use Rattle.session.specs.Access.{ADMIN}
 use Rattle.apdu.specs.Parameters.{isTag}
 use Rattle.commands_spec.specs.declared.store.Stored.{Stored}

@@ -1,9 +1,9 @@
 -- P1 to P12 of document 01, "Sums to prove (P)": the commands give what each row of the table says. Assumes nothing.
 use lib.Dec.{T}
 use Rattle.octets.specs.Bytes.{same}
-use Rattle.session.specs.Session.{answered, reselected}
+use Rattle.session.specs.Transitions.{answered, reselected}
 use Rattle.session.specs.Access.{access, accessOf, hasRmac}
-use Rattle.session.specs.Packing.{amountOf}
+use Rattle.session.specs.Codes.{amountOf}
 use Rattle.commands_spec.specs.Outcomes.{decided, refused, done}
 use Rattle.commands_spec.specs.Updates.{withState}
 use Rattle.commands_spec.specs.Status.{administrative, operational}

@@ -21,7 +21,7 @@ use Rattle.session.specs.declared.Set.{Set}
 use Rattle.session.specs.declared.Set.the-variants.{Debit, Credit, Admin}
 use Rattle.session.specs.declared.Level.{Level}
 use Rattle.session.specs.declared.Session.{Session}
-use Rattle.session.specs.Session.{flagged}
+use Rattle.session.specs.Transitions.{flagged}
 use Rattle.session.specs.Access.{access, accessOf, CREDIT}
 use Rattle.apdu.specs.declared.instructions.Plain.the-variants.{VerifyPin}
 use Rattle.apdu.specs.Instructions.{instruction, of94}

@@ -16,8 +16,8 @@ use Rattle.card.specs.Changes.{Change, changed}
 use Rattle.session.specs.declared.Pending.{Pending}
 use Rattle.session.specs.declared.Pending.the-variants.{Nothing, Update, Debiting, Crediting}
 use Rattle.session.specs.declared.Session.{Session}
-use Rattle.session.specs.Session.{ended, closed, reselected, chained}
-use Rattle.session.specs.Packing.{setOf, amountOf}
+use Rattle.session.specs.Transitions.{ended, closed, reselected, chained}
+use Rattle.session.specs.Codes.{setOf, amountOf}
 use Rattle.channel.specs.Channel.{cmacOf, rmacOf}
 use Rattle.apdu.specs.declared.instructions.Plain.{Plain}
 use Rattle.apdu.specs.declared.instructions.Plain.the-variants.{Select, InitializeUpdate, ExternalAuthenticate, VerifyPin, GetData, ReadRecord}

@@ -16,8 +16,8 @@ use Rattle.card.specs.Card.{Card, void}
 use Rattle.session.specs.declared.Pending.{Pending}
 use Rattle.session.specs.declared.Pending.the-variants.{Nothing, Update, Debiting, Crediting}
 use Rattle.session.specs.declared.Session.{Session}
-use Rattle.session.specs.Session.{ended, closed, chained}
-use Rattle.session.specs.Packing.{setOf}
+use Rattle.session.specs.Transitions.{ended, closed, chained}
+use Rattle.session.specs.Codes.{setOf}
 use Rattle.channel.specs.Channel.{cmacOf}
 use Rattle.apdu.specs.declared.instructions.Plain.{Plain}
 use Rattle.apdu.specs.declared.instructions.Plain.the-variants.{Select, InitializeUpdate, ExternalAuthenticate, VerifyPin, GetData, ReadRecord}

@@ -13,7 +13,7 @@ use Rattle.octets.proofs.Rules.{or-right}
 use Rattle.octets.proofs.Holding.{content-holding}
 use Rattle.card.specs.Card.{Card}
 use Rattle.session.specs.declared.Session.{Session}
-use Rattle.session.specs.Session.{chained}
+use Rattle.session.specs.Transitions.{chained}
 use Rattle.commands_spec.specs.declared.outcome.Outcome.{Outcome}
 use Rattle.commands_spec.specs.Outcomes.{refused, done, decided}
 use Rattle.commands_spec.specs.Words.{isOne, statusWords}

@@ -13,9 +13,9 @@ use Rattle.card.specs.declared.head.Head.{Head}
 use Rattle.session.specs.declared.Pending.{Pending}
 use Rattle.session.specs.declared.Pending.the-variants.{Nothing, Update, Debiting, Crediting}
 use Rattle.session.specs.declared.Session.{Session}
-use Rattle.session.specs.Session.{ended, answered}
+use Rattle.session.specs.Transitions.{ended, answered}
 use Rattle.session.specs.Access.{hasRmac}
-use Rattle.session.specs.Packing.{amountOf}
+use Rattle.session.specs.Codes.{amountOf}
 use Rattle.channel.specs.Channel.{rmacOf}
 use Rattle.commands_spec.specs.declared.outcome.Effect.the-variants.{StateAndEntry}
 use Rattle.commands_spec.specs.declared.outcome.Outcome.{Outcome}

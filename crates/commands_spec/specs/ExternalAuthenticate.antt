@@ -13,7 +13,7 @@ use Rattle.session.specs.declared.Level.the-variants.{Mac, Rmac}
 use Rattle.session.specs.declared.Pending.{Pending}
 use Rattle.session.specs.declared.Pending.the-variants.{Nothing, Update, Debiting, Crediting}
 use Rattle.session.specs.declared.Session.{Session}
-use Rattle.session.specs.Session.{ended, closed, opened}
+use Rattle.session.specs.Transitions.{ended, closed, opened}
 use Rattle.channel.specs.Channel.{cmacOf}
 use Rattle.commands_spec.specs.declared.outcome.Effect.the-variants.{Unchanged}
 use Rattle.commands_spec.specs.declared.outcome.Outcome.{Outcome}

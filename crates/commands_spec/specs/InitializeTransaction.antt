@@ -10,7 +10,7 @@ use Rattle.card.specs.declared.head.Head.{Head}
 use Rattle.session.specs.declared.Pending.{Pending}
 use Rattle.session.specs.declared.Pending.the-variants.{Debiting, Crediting}
 use Rattle.session.specs.declared.Session.{Session}
-use Rattle.session.specs.Session.{ended, answered}
+use Rattle.session.specs.Transitions.{ended, answered}
 use Rattle.session.specs.Access.{access, hasRmac, DEBIT, CREDIT}
 use Rattle.channel.specs.Channel.{rmacOf, bankSent}
 use Rattle.commands_spec.specs.declared.outcome.Effect.the-variants.{Unchanged}

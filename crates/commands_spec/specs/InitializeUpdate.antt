@@ -9,8 +9,8 @@ use Rattle.card.specs.declared.head.KeySet.{KeySet}
 use Rattle.card.specs.declared.head.Head.{Head}
 use Rattle.session.specs.declared.Offer.{Offer}
 use Rattle.session.specs.declared.Session.{Session}
-use Rattle.session.specs.Session.{ended, offered}
-use Rattle.session.specs.Packing.{setOf}
+use Rattle.session.specs.Transitions.{ended, offered}
+use Rattle.session.specs.Codes.{setOf}
 use Rattle.channel.specs.Channel.{sessionKey, cardCryptogram, hostCryptogram}
 use Rattle.commands_spec.specs.declared.outcome.Effect.the-variants.{Unchanged}
 use Rattle.commands_spec.specs.declared.outcome.Outcome.{Outcome}

@@ -9,7 +9,7 @@ use Rattle.octets.specs.Choice.{pick, refuse}
 use Rattle.card.specs.declared.head.Head.{Head}
 use Rattle.card.specs.Pin.{wellFormed}
 use Rattle.session.specs.declared.Session.{Session}
-use Rattle.session.specs.Session.{ended, flagged}
+use Rattle.session.specs.Transitions.{ended, flagged}
 use Rattle.session.specs.Access.{access, ADMIN}
 use Rattle.channel.specs.Channel.{received}
 use Rattle.commands_spec.specs.declared.outcome.Effect.the-variants.{StateOnly, StateAndParameters}

@@ -8,7 +8,7 @@ use Rattle.octets.specs.Choice.{pick, refuse}
 use Rattle.octets.specs.Words.{wordAt}
 use Rattle.card.specs.declared.head.Head.{Head}
 use Rattle.session.specs.declared.Session.{Session}
-use Rattle.session.specs.Session.{ended}
+use Rattle.session.specs.Transitions.{ended}
 use Rattle.session.specs.Access.{access, ADMIN}
 use Rattle.commands_spec.specs.declared.outcome.Effect.the-variants.{ParametersOnly}
 use Rattle.commands_spec.specs.declared.outcome.Outcome.{Outcome}

@@ -8,9 +8,9 @@ use Rattle.octets.specs.Bytes.{field}
 use Rattle.card.specs.declared.head.KeySet.{KeySet}
 use Rattle.card.specs.declared.head.Head.{Head}
 use Rattle.session.specs.declared.Session.{Session}
-use Rattle.session.specs.Session.{ended}
+use Rattle.session.specs.Transitions.{ended}
 use Rattle.session.specs.Access.{access, ADMIN}
-use Rattle.session.specs.Packing.{setOf}
+use Rattle.session.specs.Codes.{setOf}
 use Rattle.channel.specs.Channel.{received}
 use Rattle.commands_spec.specs.declared.outcome.Effect.the-variants.{ParametersOnly}
 use Rattle.commands_spec.specs.declared.outcome.Outcome.{Outcome}

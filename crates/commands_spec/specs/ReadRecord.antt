@@ -4,7 +4,7 @@ use Prim.Native.Nat.{ℕ, _-_}
 use Rattle.octets.specs.Bytes.{byteAt}
 use Rattle.card.specs.declared.head.Head.{Head}
 use Rattle.session.specs.declared.Session.{Session}
-use Rattle.session.specs.Session.{ended}
+use Rattle.session.specs.Transitions.{ended}
 use Rattle.commands_spec.specs.declared.outcome.Effect.the-variants.{Unchanged}
 use Rattle.commands_spec.specs.declared.outcome.Outcome.{Outcome}
 use Rattle.commands_spec.specs.Outcomes.{done}

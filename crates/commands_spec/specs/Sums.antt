@@ -14,7 +14,7 @@ use Rattle.session.specs.declared.Set.the-variants.{Credit}
 use Rattle.session.specs.declared.Level.the-variants.{Rmac}
 use Rattle.session.specs.declared.Pending.the-variants.{Nothing}
 use Rattle.session.specs.declared.Session.{Session}
-use Rattle.session.specs.Session.{noOffer}
+use Rattle.session.specs.Transitions.{noOffer}
 use Rattle.commands_spec.specs.Select.{selectOf}
 use Rattle.commands_spec.specs.InitializeTransaction.{initializeTransactionOf}
 use Rattle.commands_spec.specs.CompleteTransaction.{completeTransactionOf}

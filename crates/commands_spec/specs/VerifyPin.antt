@@ -12,7 +12,7 @@ use Rattle.octets.specs.Buffers.{holding}
 use Rattle.card.specs.declared.head.Head.{Head}
 use Rattle.card.specs.Card.{void}
 use Rattle.session.specs.declared.Session.{Session}
-use Rattle.session.specs.Session.{ended, flagged}
+use Rattle.session.specs.Transitions.{ended, flagged}
 use Rattle.session.specs.Access.{access, CREDIT}
 use Rattle.channel.specs.Channel.{received}
 use Rattle.commands_spec.specs.declared.outcome.Effect.the-variants.{PinTry}

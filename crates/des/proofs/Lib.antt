@@ -1,4 +1,3 @@
-pub mod Fill
 mod Numbers
 mod Places
 mod Turns

@@ -9,7 +9,7 @@ use lib.ListN.{length}
 use Rattle.octets.specs.Bytes.{AreBytes}
 use Rattle.stores.specs.Stores.{Store}
 use Rattle.session.specs.declared.Session.{Session}
-use Rattle.session.specs.Session.{unselected}
+use Rattle.session.specs.Transitions.{unselected}
 use Rattle.session.proofs.Sizes.{unselected-sized}
 use Rattle.purse_spec.specs.Calls.{Run, refusal, performed}
 use Rattle.purse_spec.specs.History.{Call, Situation, OfBytes, run, limitOf, areaFor}

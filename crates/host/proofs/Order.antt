@@ -15,7 +15,7 @@ use Rattle.card.specs.Layout.{memorySize}
 use Rattle.session.specs.declared.Session.{Session}
 use Rattle.session.specs.Packing.{unpacked}
 use Rattle.session.proofs.Sizes.{Sized}
-use Rattle.session.proofs.Reading.{reads-back, reads-array, reads-sized}
+use Rattle.session.proofs.Reading.{reads-back, reads-octets, reads-sized}
 use Rattle.commands_spec.specs.Order.{refuses, passes}
 use Rattle.purse_spec.specs.Calls.{Run}
 use Rattle.purse_spec.specs.Installation.{installation}
@@ -99,7 +99,7 @@ other-length area g (inl w) = by (unpacked area) refl
   where
     by : (o : Option Session) → unpacked area ≡ o → o ≡ none
     by none e = refl
-    by (some s) e = absurd (w (reads-array area s e g .long))
+    by (some s) e = absurd (w (reads-octets area s e g .size))
 
 -- past 8 an area reads as a session
 session-read : (area : List ℕ) → ((length area ≡ 128 → ⊥) ⊎ (unpacked area ≡ none) → ⊥) → (s : Session) × (unpacked area ≡ some s)

@@ -12,7 +12,7 @@ use Rattle.card.specs.Layout.{memorySize}
 use Rattle.session.specs.declared.Session.{Session}
 use Rattle.session.specs.declared.packing.Unpacked.{Unpacked}
 use Rattle.session.specs.Packing.{packed, unpacked, shown, unpacking}
-use Rattle.session.proofs.Reading.{unpacking-ok, reads-array}
+use Rattle.session.proofs.Reading.{unpacking-ok, reads-octets}
 use Rattle.purse_spec.specs.Calls.{Run}
 use Rattle.purse_spec.specs.Commands.{leastArea, command}
 use Rattle.purse.specs.declared.calls.Called.{Called}
@@ -55,7 +55,7 @@ shown-none (some s) e = absurd (false≢true (sym e))
 module _ (m area bytes random response : List ℕ) (limit : ℕ) (u : Unpacked) (e : u ≡ unpacking area) where
   -- an area that reads as a session has its size
   pub session-long : AreBytes area → u .ok ≡ true → length area ≡ sessionSize
-  session-long f k = reads-array area _ (unpacking-ok area (ap (λ (x : Unpacked). x .ok) (sym e) ∙ k)) f .long
+  session-long f k = reads-octets area _ (unpacking-ok area (ap (λ (x : Unpacked). x .ok) (sym e) ∙ k)) f .size
 
   module _ (a : length m ≡ memorySize) (b : leastArea ≤ length response) (d : length random ≡ 8) where
     -- its session area reads as none

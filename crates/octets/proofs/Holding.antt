@@ -7,19 +7,13 @@ use native.Mathlib.Decide.{decLe}
 use native.Mathlib.Nat.{lt-of-not-le}
 use borrow.Author.Tests.{le-leb, lt-leb}
 use lib.Dec.{T, leb, leb→le}
-use lib.ListN.{length, take, drop, length-append, length-replicate, replicate-append-replicate}
-use lib.Seq.{take-all, take-length, take-append-seam, drop-append-add, drop-at, length-take-le}
+use lib.ListN.{length, take, drop, length-append, length-replicate}
+use lib.Seq.{take-all, take-length, take-append-seam, drop-append-add, length-take-le}
 use Rattle.octets.specs.declared.buffer.Buffer.{Buffer}
 use Rattle.octets.specs.Bytes.{zeros, paste}
 use Rattle.octets.specs.Buffers.{capacity, content, holding, appended}
+use Rattle.octets.proofs.Parts.{drop-zeros}
 use Rattle.octets.proofs.Pasting.{paste-fits}
-
-drop-zeros : (k j : ℕ) → j ≤ k → drop j (zeros k) ≡ zeros (k - j)
-drop-zeros k j h =
-    let e : j + (k - j) ≡ k = omega arith in
-    ap (λ (n : ℕ). drop j (zeros n)) (sym e)
-    ∙ ap (drop {A = ℕ} j) (sym (replicate-append-replicate j (k - j) 0))
-    ∙ drop-at (zeros j) (zeros (k - j)) j (length-replicate j 0)
 
 zeros-pasted : (x p : List ℕ) (k : ℕ) → length p ≤ k → paste (x ++ zeros k) (length x) p ≡ x ++ p ++ zeros (k - length p)
 zeros-pasted x p k h =

@@ -6,4 +6,5 @@ pub mod Pasting
 pub mod Equality
 pub mod Numbers
 pub mod Ranges
+pub mod Octets
 pub mod Holding

@@ -5,7 +5,7 @@ use mathlib.Core.List.{List, [], _∷_, _++_}
 use native.Mathlib.Omega.{arith}
 use native.Mathlib.Decide.{decLe}
 use native.Mathlib.Nat.{lt-of-not-le, sub-zero, zero-sub, suc-sub-suc}
-use lib.ListN.{length, getD, take, drop, length-append, length-drop, length-replicate, getD-replicate, List·getD-eq-default, List·getD-append}
+use lib.ListN.{length, getD, take, drop, length-append, length-drop, length-replicate, getD-replicate, replicate-append-replicate, List·getD-eq-default, List·getD-append}
 use lib.Seq.{take-at, take-all, take-nil, take-take, take-append-le, drop-at, drop-drop, drop-append-le, length-take-le, getD-take, getD-drop, getD-append-add, ext-getD}
 use Rattle.octets.specs.Bytes.{zeros, byteAt, part, field}
 
@@ -72,3 +72,23 @@ field-part s at n h = take-append-le n (drop at s) (zeros n) (rw length-drop (om
 pub field-is : (s t : List ℕ) (at n : ℕ) → length t ≡ n → ((i : ℕ) → i < n → byteAt t i ≡ byteAt s (at + i)) → t ≡ field s at n
 field-is s t at n e f =
     ext-getD 0 t (field s at n) (e ∙ sym (length-field s at n)) (λ i h. f i (omega arith) ∙ sym (field-at s at n i (omega arith)))
+
+-- past the end of the string a field is zero
+pub field-past : (s : List ℕ) (at n : ℕ) → length s ≤ at → zeros n ≡ field s at n
+field-past s at n h =
+    field-is s (zeros n) at n (length-replicate n 0) (λ i k. getD-replicate n i 0 0 k ∙ sym (byte-past s (at + i) (omega arith)))
+
+-- over its end it is what the string has, and zeros
+pub field-end : (s : List ℕ) (at n : ℕ) → at ≤ length s → length s - at ≤ n → drop at s ++ zeros (n - (length s - at)) ≡ field s at n
+field-end s at n h k =
+    let m = n - (length s - at) in
+    let l : length (drop at s) + m ≡ n = rw length-drop (omega arith) in
+    field-is s (drop at s ++ zeros m) at n (length-append (drop at s) (zeros m) ∙ rw (length-replicate {A = ℕ} m 0) l)
+    (λ i j. padded (drop at s) m i (omega arith) ∙ getD-drop at s i 0)
+
+pub drop-zeros : (k j : ℕ) → j ≤ k → drop j (zeros k) ≡ zeros (k - j)
+drop-zeros k j h =
+    let e : j + (k - j) ≡ k = omega arith in
+    ap (λ (n : ℕ). drop j (zeros n)) (sym e)
+    ∙ ap (drop {A = ℕ} j) (sym (replicate-append-replicate j (k - j) 0))
+    ∙ drop-at (zeros j) (zeros (k - j)) j (length-replicate j 0)

@@ -6,10 +6,10 @@ use native.Mathlib.Omega.{arith}
 use native.Mathlib.Decide.{decLe}
 use native.Mathlib.Nat.{lt-of-not-le, zero-add, add-zero}
 use borrow.Author.Tests.{le-leb, lt-leb}
-use lib.ListN.{length, take, drop, length-append, length-drop, drop-of-length-le, take-append-drop}
+use lib.ListN.{length, take, drop, length-append, length-drop, length-replicate, drop-of-length-le, take-append-drop}
 use lib.Seq.{take-at, drop-at, drop-drop, length-take-le, sets, sets-eq}
-use Rattle.octets.specs.Bytes.{part, paste}
-use Rattle.octets.proofs.Parts.{part-between}
+use Rattle.octets.specs.Bytes.{zeros, part, field, paste}
+use Rattle.octets.proofs.Parts.{part-between, field-end, drop-zeros}
 
 pub paste-fits : (d : List ℕ) (at : ℕ) (s : List ℕ) → at + length s ≤ length d → paste d at s ≡ take at d ++ s ++ drop (at + length s) d
 unfolding paste
@@ -45,6 +45,13 @@ pub paste-whole : (d s : List ℕ) → length s ≡ length d → paste d 0 s ≡
 paste-whole d s e =
     let h : length d ≤ length s = omega arith in
     paste-front d s (omega arith) ∙ rw (drop-of-length-le d h) (append-nil s)
+
+-- over zeros: what a string has from an index on, where it ends first
+pub paste-field : (s : List ℕ) (at n : ℕ) → at ≤ length s → length s - at ≤ n → paste (zeros n) 0 (drop at s) ≡ field s at n
+paste-field s at n h k =
+    let l : length (drop at s) ≡ length s - at = length-drop at s in
+    let g : length (drop at s) ≤ length (zeros n) = rw (length-replicate {A = ℕ} n 0) (omega arith) in
+    paste-front (zeros n) (drop at s) g ∙ rw (l, drop-zeros n (length s - at) k) (field-end s at n h k)
 
 pub paste-nothing : (d : List ℕ) (at : ℕ) → paste d at [] ≡ d
 paste-nothing d at = elim (decLe (at + 0) (length d)) [ yes h ↦ fits h | no h ↦ paste-past d at [] (lt-of-not-le h) ]

@@ -2,6 +2,7 @@
 use Prim.Native.Nat.{ℕ, _+_, _<_}
 use mathlib.Core.Bool.{Bool, true, false, _&&_}
 use mathlib.Core.List.{List, [], _∷_, _++_}
+use mathlib.Core.Path.{_≡_}
 use lib.Dec.{leb, eqb}
 use lib.ListN.{length, getD, take, drop, replicate}
 use Rattle.octets.specs.Choice.{pick}
@@ -9,6 +10,11 @@ use Rattle.octets.specs.Choice.{pick}
 -- each number of s is a byte
 abbrev pub AreBytes : List ℕ → Type 0
 AreBytes s = (i : ℕ) → getD s i 0 < 256
+
+-- s is n bytes
+pub record Octets (n : ℕ) (s : List ℕ) : Type 0 where
+  pub size : length s ≡ n
+  pub each : AreBytes s
 
 -- n zeros
 abbrev pub zeros : ℕ → List ℕ

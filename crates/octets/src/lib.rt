@@ -1,7 +1,8 @@
-// Byte strings, as the crates above use them: read, written, compared, and put together in a buffer by value.
+// Byte strings, as the crates above use them: read, written, compared, and put together in a buffer by value; tests joined.
 pub mod buffer;
 pub mod comparing;
 pub mod reading;
+pub mod tests;
 pub mod words;
 pub mod writing;
 
@@ -27,6 +28,10 @@ pub use reading::part16;
 pub use reading::part24;
 pub use reading::part48;
 pub use reading::word_at;
+pub use tests::all_true;
+pub use tests::both;
+pub use tests::either;
+pub use tests::flag_byte;
 pub use words::high;
 pub use words::low;
 pub use words::word_of;

@@ -1,10 +1,12 @@
 // Bytes, words and fixed parts of a byte string. Past its end all is zero, so nothing is required.
 ghost use mathlib.Core.Path.{_≡_};
-ghost use Prim.Native.Nat.{_+_};
+ghost use Prim.Native.Nat.{_+_, _-_, _≤_, _<_};
 ghost use lib.ListN.{length};
 ghost use Rattle.octets.specs.Bytes.{byteAt, field};
 ghost use Rattle.octets.specs.Words.{wordAt};
 use crate::words::word_of;
+use crate::writing::clear;
+use crate::writing::paste;
 
 // The byte at an index.
 pub fn byte_at(s: &[u8], at: usize) -> u8
@@ -40,11 +42,23 @@ pub fn word_at(s: &[u8], at: usize) -> u16
 pub fn fill(area: &mut [u8], s: &[u8], at: usize)
     ensures { λ _. ⌜ now (area .exit) ≡ field (now (s .entry)) at (length (now (area .entry))) ⌝ }
 {
-    let mut i = 0;
-    while i < area.len() {
-        area[i] = byte_from(s, at, i);
-        i += 1;
+    if s.len() <= at {
+        return clear(area);
     }
+    if s.len() - at < area.len() {
+        return fill_end(area, s, at);
+    }
+    let end = at + area.len();
+    paste(area, 0, &s[at..end]);
+}
+
+// The same where `s` ends first.
+fn fill_end(area: &mut [u8], s: &[u8], at: usize)
+    requires { ⌜ (at ≤ length (now s)) × (length (now s) - at < length (now area)) ⌝ }
+    ensures { λ _. ⌜ now (area .exit) ≡ field (now (s .entry)) at (length (now (area .entry))) ⌝ }
+{
+    clear(area);
+    paste(area, 0, &s[at..]);
 }
 
 // Four bytes from an index on.

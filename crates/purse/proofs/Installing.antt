@@ -14,7 +14,7 @@ use Rattle.card.specs.declared.head.Fixed.{Fixed}
 use Rattle.card.specs.declared.head.KeySet.{KeySet}
 use Rattle.card.specs.Layout.{memorySize}
 use Rattle.card.specs.Changes.{installPlan}
-use Rattle.session.specs.Session.{unselected}
+use Rattle.session.specs.Transitions.{unselected}
 use Rattle.purse_spec.specs.Calls.{refusal}
 use Rattle.purse_spec.specs.Installation.{dataOk, fixedOf, keysOf, installation}
 use Rattle.purse.specs.declared.calls.Called.{Called}

@@ -17,7 +17,7 @@ use Rattle.card.specs.Card.{Card}
 use Rattle.card.specs.Changes.{Change, state, plan}
 use Rattle.card.proofs.Bounds.{plan-length}
 use Rattle.session.specs.declared.Session.{Session}
-use Rattle.session.specs.Session.{unselected}
+use Rattle.session.specs.Transitions.{unselected}
 use Rattle.commands_spec.specs.declared.outcome.Outcome.{Outcome}
 use Rattle.commands_spec.specs.Outcomes.{changesOf}
 use Rattle.purse_spec.specs.Calls.{performed}

@@ -11,7 +11,7 @@ use Rattle.card.specs.Layout.{memorySize}
 use Rattle.card.specs.declared.head.Head.{Head}
 use Rattle.card.specs.declared.reading.Reading.{Reading}
 use Rattle.card.specs.Reading.{readable, reading, headIn, noCard}
-use Rattle.session.specs.Session.{unselected}
+use Rattle.session.specs.Transitions.{unselected}
 use Rattle.purse_spec.specs.Calls.{refusal}
 use Rattle.purse_spec.specs.Startup.{startup}
 use Rattle.purse_spec.proofs.Performed.{performed-nothing}

@@ -21,9 +21,9 @@ use changes::commit_parameters;
 use changes::commit_state;
 use commands_spec::Effect;
 use commands_spec::Outcome;
-use effects::tried;
 use octets::Buffer;
 use stores::left;
+use transactions::verify_pin::tried;
 
 // One change of H, and where `again` says so another: VERIFY PIN's.
 fn commit_twice(memory: &mut [u8], first: State, second: State, again: bool, limit: usize) -> usize

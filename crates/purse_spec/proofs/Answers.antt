@@ -10,7 +10,7 @@ use Rattle.octets.proofs.Pasting.{length-paste}
 use Rattle.stores.specs.Stores.{Store}
 use Rattle.stores.proofs.Plans.{leaves-length}
 use Rattle.session.specs.declared.Session.{Session}
-use Rattle.session.specs.Session.{unselected}
+use Rattle.session.specs.Transitions.{unselected}
 use Rattle.purse_spec.specs.Calls.{Run, refusal, performed}
 use Rattle.purse_spec.specs.History.{Call, install, start, send, Situation, limitOf, sessionFor, areaFor, run, isStart, isInstall}
 use Rattle.purse_spec.proofs.Performed.{by-limit, done-or-cut}

@@ -14,7 +14,7 @@ use Rattle.card.specs.Card.{Card, freshHead, fresh}
 use Rattle.card.specs.Layout.{memorySize}
 use Rattle.card.specs.Reading.{readCard}
 use Rattle.card.proofs.Installation.{fresh-proper}
-use Rattle.session.specs.Session.{unselected}
+use Rattle.session.specs.Transitions.{unselected}
 use Rattle.session.proofs.Sizes.{unselected-sized}
 use Rattle.commands_spec.specs.CompleteTransaction.{isNoted}
 use Rattle.commands_spec.proofs.Facts.{facts}
@@ -83,7 +83,7 @@ unfolding run OfBytes isInstall
 call-booked (install d limit) st b f n h = later-booked st b d limit f h (n refl)
 call-booked (start limit) st b f n h = startup-booked st b h limit
 call-booked (send bytes random area limit) st b f n h =
-    command-booked st b h bytes random area limit (λ e. record { proper = h .proper; sized = h .sized; bytes = f .0; drawn = record { long = e; bytes = f .1 } })
+    command-booked st b h bytes random area limit (λ e. record { proper = h .proper; sized = h .sized; bytes = f .0; drawn = record { size = e; each = f .1 } })
 
 -- that start-ups alone follow a cut isn't used: a cut command leaves balance, number and note as they were
 list-holds : (xs : List Call) (st : Situation) (b : Ledger) → AllOfBytes xs → Admissible xs st → Agrees (st .memory) (st .session) b

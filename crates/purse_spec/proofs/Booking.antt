@@ -22,8 +22,8 @@ use Rattle.card.specs.Reading.{readCard}
 use Rattle.session.specs.declared.Pending.{Pending}
 use Rattle.session.specs.declared.Pending.the-variants.{Nothing, Update, Debiting, Crediting}
 use Rattle.session.specs.declared.Session.{Session}
-use Rattle.session.specs.Session.{unselected}
-use Rattle.session.specs.Packing.{amountOf}
+use Rattle.session.specs.Transitions.{unselected}
+use Rattle.session.specs.Codes.{amountOf}
 use Rattle.session.proofs.Sizes.{Sized, unselected-sized}
 use Rattle.apdu.specs.declared.instructions.Signed.the-variants.{InitializeTransaction, CompleteTransaction}
 use Rattle.apdu.specs.declared.instructions.Instruction.the-variants.{IsSigned}

@@ -22,7 +22,7 @@ use Rattle.card.specs.Reading.{readCard}
 use Rattle.card.specs.Changes.{Change, state, changed, plan}
 use Rattle.card.proofs.Done.{change-done}
 use Rattle.session.specs.declared.Session.{Session}
-use Rattle.session.specs.Session.{unselected}
+use Rattle.session.specs.Transitions.{unselected}
 use Rattle.commands_spec.specs.declared.outcome.Outcome.{Outcome}
 use Rattle.commands_spec.specs.Outcomes.{done, tried, changesOf, after}
 use Rattle.commands_spec.specs.Updates.{withTries}

@@ -32,7 +32,7 @@ use Rattle.session.specs.declared.Level.{Level}
 use Rattle.session.specs.declared.Level.the-variants.{Rmac}
 use Rattle.session.specs.declared.Pending.the-variants.{Update}
 use Rattle.session.specs.declared.Session.{Session}
-use Rattle.session.specs.Session.{unselected}
+use Rattle.session.specs.Transitions.{unselected}
 use Rattle.session.proofs.Sizes.{Sized}
 use Rattle.apdu.specs.declared.instructions.Signed.{Signed}
 use Rattle.apdu.specs.declared.instructions.Signed.the-variants.{PutKey, PinChange, StoreData, CompleteTransaction}
@@ -259,13 +259,13 @@ module _ {first : Situation} {p d k : Bool} where
   opened w =
       step (λ c s. Stage p d k c × InChannel s (Rmac Admin)) (λ c s. signedBy (s .offer .mac) (zeros 8) 0x84 0x82 0x11 0x00 (s .offer .expected) []) w
       (λ c s h q z.
-      let n = z .offer .expected .long in
+      let n = z .offer .expected .size in
       signed-bytes (s .offer .mac) (zeros 8) 0x84 0x82 0x11 0x00 (s .offer .expected) (zeros-bytes 8) (omega arith) (omega arith) (omega arith) (omega arith) (omega arith)
-      (z .offer .expected .bytes))
+      (z .offer .expected .each))
       (λ c s h q z y.
-      let u = authenticate-granted c s Admin 0x11 (Rmac Admin) [] (zeros 8) (h .1) (h .2) (z .offer .expected .long) with-rmac (omega arith) .session in (
+      let u = authenticate-granted c s Admin 0x11 (Rmac Admin) [] (zeros 8) (h .1) (h .2) (z .offer .expected .size) with-rmac (omega arith) .session in (
         subst (Stage p d k) (sym (reads-only c s _ (zeros 8) (signed-readers _ _ _ _ _ .0))) (h .0),
-        record { selected = ap (λ (t : Session). t .selected) u ∙ h .1; level = ap (λ (t : Session). t .channel .level) u; chain = y .channel .cmac .long },
+        record { selected = ap (λ (t : Session). t .selected) u ∙ h .1; level = ap (λ (t : Session). t .channel .level) u; chain = y .channel .cmac .size },
       ))
 
 -- ---- PUT KEY for sets 1 and 2
@@ -282,7 +282,7 @@ still-open c s command random g l n w o z =
     let e = ends-pending c s command random in
     let a : respond c s command random .session .selected ≡ s .selected = e .selected ∙ rw n in
     let b : touches (named command) (respond c s command random .status) ≡ false = rw (n, w) in
-    record { selected = a ∙ o .selected; level = e .channel b .level ∙ o .level; chain = z .channel .cmac .long }
+    record { selected = a ∙ o .selected; level = e .channel b .level ∙ o .level; chain = z .channel .cmac .size }
 
 -- the key set of 01 bytes
 abbrev keys : KeySet
@@ -302,7 +302,7 @@ put-key-bytes : (c : Card) (s : Session) (n : ℕ) → n < 256 → Sized s → A
 unfolding signedCommand below
 put-key-bytes c s n h z =
     let l = length-ecbText encipher (c .head .shared .admin .dek) (ones 16 ++ ones 16 ++ ones 16) in
-    signed-bytes (s .channel .mac) (s .channel .cmac) 0x84 0xD8 0x00 n (keysSent c) (z .channel .cmac .bytes) (omega arith) (omega arith) (omega arith) h (omega arith)
+    signed-bytes (s .channel .mac) (s .channel .cmac) 0x84 0xD8 0x00 n (keysSent c) (z .channel .cmac .each) (omega arith) (omega arith) (omega arith) h (omega arith)
     (sent-bytes (c .head .shared .admin .dek) (ones 16 ++ ones 16 ++ ones 16) (tested (ones 16 ++ ones 16 ++ ones 16) refl))
 
 put-key-named : (s : Session) (n : ℕ) (body : List ℕ) → named (signedCommand s 0x84 0xD8 0x00 n body []) ≡ IsSigned PutKey
@@ -371,7 +371,7 @@ store-named s body = refl
 store-bytes : (s : Session) → Sized s → AreBytes (storing s tlvs [])
 unfolding signedCommand flat below
 store-bytes s z =
-    signed-bytes (s .channel .mac) (s .channel .cmac) 0x84 0xE2 0x80 0x00 (flat tlvs) (z .channel .cmac .bytes) (omega arith) (omega arith) (omega arith) (omega arith) (omega arith)
+    signed-bytes (s .channel .mac) (s .channel .cmac) 0x84 0xE2 0x80 0x00 (flat tlvs) (z .channel .cmac .each) (omega arith) (omega arith) (omega arith) (omega arith) (omega arith)
     (tested (flat tlvs) refl)
 
 stored : {first : Situation} → Some first (λ c s. Stage false true true c × InChannel s (Rmac Admin)) → Some first (λ c s. Personalized c × InChannel s (Rmac Admin))
@@ -436,13 +436,13 @@ credit-allowed c p =
 initialization-bytes : (s : Session) → Sized s → AreBytes (initialization s 0x01 0x0978 100 [])
 unfolding signedCommand below
 initialization-bytes s z =
-    signed-bytes (s .channel .mac) (s .channel .cmac) 0x94 0x44 0x01 0x00 (word 0x0978 ++ word 100) (z .channel .cmac .bytes) (omega arith) (omega arith) (omega arith) (omega arith) (omega arith)
+    signed-bytes (s .channel .mac) (s .channel .cmac) 0x94 0x44 0x01 0x00 (word 0x0978 ++ word 100) (z .channel .cmac .each) (omega arith) (omega arith) (omega arith) (omega arith) (omega arith)
     (tested (word 0x0978 ++ word 100) refl)
 
 completion-bytes : (s : Session) → Sized s → AreBytes (completion s (zeros 16) [])
 unfolding signedCommand
 completion-bytes s z =
-    signed-bytes (s .channel .mac) (s .channel .cmac) 0x94 0x46 0x00 0x00 (zeros 16) (z .channel .cmac .bytes) (omega arith) (omega arith) (omega arith) (omega arith) (omega arith) (zeros-bytes 16)
+    signed-bytes (s .channel .mac) (s .channel .cmac) 0x94 0x46 0x00 0x00 (zeros 16) (z .channel .cmac .each) (omega arith) (omega arith) (omega arith) (omega arith) (omega arith) (zeros-bytes 16)
 
 initialization-reads : (s : Session) → isReader (named (initialization s 0x01 0x0978 100 [])) ≡ true
 unfolding signedCommand
@@ -502,7 +502,7 @@ pin-bytes c s z =
     let b = block-bytes digits four-digits in
     let l = length-ecbText encipher (c .head .shared .admin .dek) (blockOf digits) in
     let k = b .size in
-    signed-bytes (s .channel .mac) (s .channel .cmac) 0x84 0x24 0x00 0x00 (ecbText encipher (c .head .shared .admin .dek) (blockOf digits)) (z .channel .cmac .bytes) (omega arith) (omega arith)
+    signed-bytes (s .channel .mac) (s .channel .cmac) 0x84 0x24 0x00 0x00 (ecbText encipher (c .head .shared .admin .dek) (blockOf digits)) (z .channel .cmac .each) (omega arith) (omega arith)
     (omega arith) (omega arith) (omega arith) (sent-bytes (c .head .shared .admin .dek) (blockOf digits) (b .each))
 
 pinned : {first : Situation} → Some first (λ c s. Personalized c × InChannel s (Rmac Admin)) → Some first (λ c s. Pinned c × InChannel s (Rmac Admin))

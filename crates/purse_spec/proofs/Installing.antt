@@ -26,7 +26,7 @@ use Rattle.card.specs.Reading.{readCard}
 use Rattle.card.specs.Changes.{installPlan, installCount}
 use Rattle.card.proofs.Bounds.{install-length}
 use Rattle.card.proofs.Installation.{Installable, install-cut, install-done}
-use Rattle.session.specs.Session.{unselected}
+use Rattle.session.specs.Transitions.{unselected}
 use Rattle.commands_spec.proofs.Arrays.{field-bytes-of}
 use Rattle.purse_spec.specs.Calls.{Run, refusal, performed}
 use Rattle.purse_spec.specs.Installation.{dataOk, fixedOf, keysOf, installation}

@@ -14,7 +14,7 @@ use Rattle.octets.proofs.Rules.{pick-holds}
 use Rattle.stores.specs.Stores.{Store, applied, leaves, answers, reports}
 use Rattle.stores.proofs.Limits.{answers-done, answers-cut, reports-limit, reports-count}
 use Rattle.session.specs.declared.Session.{Session}
-use Rattle.session.specs.Session.{unselected}
+use Rattle.session.specs.Transitions.{unselected}
 use Rattle.purse_spec.specs.Calls.{Run, performed}
 
 -- a plan of no stores

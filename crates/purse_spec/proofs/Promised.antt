@@ -22,4 +22,4 @@ pub record Typed (st : Situation) : Type 0 where
 pub sound-of : (m : List ℕ) (c : Card) (s : Session) (bytes random : List ℕ) → AreBytes m → readCard m ≡ some c → Sized s → AreBytes bytes → AreBytes random
     → length random ≡ 8 → Sound c s bytes random
 sound-of m c s bytes random f e z a b n =
-    record { proper = read-proper m c f e; sized = z; bytes = a; drawn = record { long = n; bytes = b } }
+    record { proper = read-proper m c f e; sized = z; bytes = a; drawn = record { size = n; each = b } }

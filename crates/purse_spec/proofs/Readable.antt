@@ -8,7 +8,7 @@ use Rattle.octets.specs.Bytes.{AreBytes}
 use Rattle.card.specs.Reading.{readable, readCard}
 use Rattle.card.proofs.Cards.{readable-read, read-readable}
 use Rattle.session.specs.declared.Session.{Session}
-use Rattle.session.specs.Session.{unselected}
+use Rattle.session.specs.Transitions.{unselected}
 use Rattle.purse_spec.specs.Calls.{Run, refusal, performed}
 use Rattle.purse_spec.specs.Installation.{installation}
 use Rattle.purse_spec.specs.History.{Call, install, start, send, Situation, OfBytes, run, isInstall}

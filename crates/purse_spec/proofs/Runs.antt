@@ -15,7 +15,7 @@ use Rattle.card.specs.Layout.{memorySize}
 use Rattle.card.specs.Reading.{readable, readCard}
 use Rattle.card.specs.Changes.{installPlan}
 use Rattle.session.specs.declared.Session.{Session}
-use Rattle.session.specs.Session.{unselected}
+use Rattle.session.specs.Transitions.{unselected}
 use Rattle.commands_spec.specs.Respond.{respond}
 use Rattle.purse_spec.specs.Calls.{Run, awaits, refusal, performed}
 use Rattle.purse_spec.specs.Installation.{dataOk, fixedOf, keysOf, installation}

@@ -11,7 +11,7 @@ use Rattle.card.specs.Reading.{readable}
 use Rattle.card.proofs.Seen.{reads}
 use Rattle.card.proofs.Live.{sound}
 use Rattle.card.proofs.Cards.{readable-read}
-use Rattle.session.specs.Session.{unselected}
+use Rattle.session.specs.Transitions.{unselected}
 use Rattle.purse_spec.specs.Calls.{Run, refusal}
 use Rattle.purse_spec.specs.Startup.{startup}
 use Rattle.purse_spec.specs.History.{Call, install, start, send, Situation, run, isStart, next, afterCalls, OnlyStarts}

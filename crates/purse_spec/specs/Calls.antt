@@ -8,7 +8,7 @@ use Rattle.octets.specs.Choice.{pick}
 use Rattle.octets.specs.Bytes.{paste}
 use Rattle.stores.specs.Stores.{Store, leaves}
 use Rattle.session.specs.declared.Session.{Session}
-use Rattle.session.specs.Session.{unselected}
+use Rattle.session.specs.Transitions.{unselected}
 
 -- the answer, the reported stores, the session handed back, memory, and the response area with the response's length.
 -- After answer 7 there is no session: the one here is the unselected one.

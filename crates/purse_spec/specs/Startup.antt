@@ -7,7 +7,7 @@ use lib.ListN.{length}
 use Rattle.octets.specs.Choice.{pick}
 use Rattle.card.specs.Layout.{memorySize}
 use Rattle.card.specs.Reading.{readable}
-use Rattle.session.specs.Session.{unselected}
+use Rattle.session.specs.Transitions.{unselected}
 use Rattle.purse_spec.specs.Calls.{Run, refusal, performed}
 
 -- 1, then 2; "Start-up never answers 5"

@@ -1,4 +1,4 @@
--- What each change of the session sets and keeps, field by field: document 01, "Every command that answers 0, refused or not, ends a
+-- What each transition of the session sets and keeps, field by field: document 01, "Every command that answers 0, refused or not, ends a
 -- pending INITIALIZE UPDATE or INITIALIZE TRANSACTION. Start-up ends all of the session; a SELECT that reaches its AID, right or not, ends
 -- all but the PIN flag." Assumes nothing.
 use mathlib.Core.Bool.{Bool, false}
@@ -13,7 +13,7 @@ use Rattle.session.specs.declared.Pending.{Pending}
 use Rattle.session.specs.declared.Pending.the-variants.{Nothing, Update}
 use Rattle.session.specs.declared.Offer.{Offer}
 use Rattle.session.specs.declared.Session.{Session}
-use Rattle.session.specs.Session.{unselected, ended, closed, reselected, flagged, offered, opened, chained, answered}
+use Rattle.session.specs.Transitions.{unselected, ended, closed, reselected, flagged, offered, opened, chained, answered}
 
 -- a session by its eleven values: selection, PIN flag; the channel's level, ENC, MAC, last C-MAC, last R-MAC; what is pending; the
 -- offer's ENC, MAC, host cryptogram
@@ -35,8 +35,8 @@ z8 = 0 ∷ 0 ∷ 0 ∷ 0 ∷ 0 ∷ 0 ∷ 0 ∷ 0 ∷ []
 abbrev z16 : List ℕ
 z16 = 0 ∷ 0 ∷ 0 ∷ 0 ∷ 0 ∷ 0 ∷ 0 ∷ 0 ∷ 0 ∷ 0 ∷ 0 ∷ 0 ∷ 0 ∷ 0 ∷ 0 ∷ 0 ∷ []
 
--- each change of a session s: a line each
-pub record Changes (s : Session) : Type 0 where
+-- each transition of a session s: a line each
+pub record Transitions (s : Session) : Type 0 where
   -- installation and start-up
   pub unselected : unselected ≡ row false false Closed z16 z16 z8 z8 Nothing z16 z16 z8
   pub ended : ended s ≡ row (s .selected) (s .verified) (s .channel .level) (s .channel .enc) (s .channel .mac) (s .channel .cmac) (s .channel .rmac) Nothing z16 z16 z8
@@ -55,8 +55,8 @@ pub record Changes (s : Session) : Type 0 where
   pub answered : (pending : Pending) (mac : List ℕ)
       → answered pending mac s ≡ row (s .selected) (s .verified) (s .channel .level) (s .channel .enc) (s .channel .mac) (s .channel .cmac) mac pending z16 z16 z8
 
--- every session is changed so
-pub field-by-field : (s : Session) → Changes s
+-- every session goes so
+pub field-by-field : (s : Session) → Transitions s
 unfolding unselected ended closed reselected flagged offered opened chained answered
 field-by-field s =
     record {

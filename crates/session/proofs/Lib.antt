@@ -1,4 +1,4 @@
-pub mod Codes
+pub mod RoundTrip
 pub mod Sizes
 pub mod Reading
 pub mod Places

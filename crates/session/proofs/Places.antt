@@ -15,9 +15,11 @@ use Rattle.session.specs.declared.Level.the-variants.{Closed, Mac, Rmac}
 use Rattle.session.specs.declared.Pending.{Pending}
 use Rattle.session.specs.declared.Pending.the-variants.{Nothing, Update, Debiting, Crediting}
 use Rattle.session.specs.declared.Session.{Session}
-use Rattle.session.specs.Packing.{flagByte, setNumber, setOf, levelNumber, pendingNumber, amountOf, packed}
+use Rattle.octets.specs.Tests.{flagByte}
+use Rattle.session.specs.Codes.{setNumber, setOf, levelNumber, pendingNumber, amountOf}
+use Rattle.session.specs.Packing.{packed}
 use Rattle.session.proofs.Sizes.{Sized}
-use Rattle.session.proofs.Reading.{Keyed, packed-array, keyed}
+use Rattle.session.proofs.Reading.{Keyed, packed-octets, keyed}
 
 -- ---- the numbers
 
@@ -108,7 +110,7 @@ pub packed-places : {s : Session} → Sized s → Places s (packed s)
 unfolding packed
 packed-places {s} h =
     record {
-      long = packed-array h .long;
+      long = packed-octets h .size;
       mark = refl;
       selected = flag-is (s .selected);
       verified = flag-is (s .verified);

@@ -10,17 +10,17 @@ use lib.Dec.{eqb}
 use lib.ListN.{length, drop, length-append}
 use lib.Seq.{drop-drop, drop-at, take-at}
 use Rattle.octets.specs.Choice.{pick}
-use Rattle.octets.specs.Bytes.{AreBytes, zeros, field, byteAt, same}
-use Rattle.octets.specs.Words.{word, wordAt}
-use Rattle.octets.proofs.Parts.{length-field}
+use Rattle.octets.specs.Bytes.{AreBytes, Octets, zeros, field, byteAt, same}
+use Rattle.octets.specs.Words.{wordAt}
 use Rattle.octets.proofs.Numbers.{word-read, word-at-below}
 use Rattle.octets.proofs.Equality.{same-refl, same-equal, byte-differs}
-use Rattle.octets.proofs.Ranges.{cons-bytes, append-bytes, field-bytes, word-bytes}
+use Rattle.octets.proofs.Octets.{cons-octets, append-octets, zeros-octets, word-octets, field-octets, flag-below}
 use Rattle.session.specs.declared.Session.{Session}
-use Rattle.session.specs.Session.{unselected}
-use Rattle.session.specs.Packing.{heading, levelOf, pendingOf, amountOf, packed, decodedChannel, decodedOffer, decoded, unpacked, unpacking, shown}
-use Rattle.session.proofs.Codes.{flag-read, level-read, pending-read, flag-small, level-small, pending-small, amount-small}
-use Rattle.session.proofs.Sizes.{Array, Sized, zeros-array, unselected-sized}
+use Rattle.session.specs.Transitions.{unselected}
+use Rattle.session.specs.Codes.{levelOf, pendingOf, amountOf}
+use Rattle.session.specs.Packing.{heading, packed, decodedChannel, decodedOffer, decoded, unpacked, unpacking, shown}
+use Rattle.session.proofs.RoundTrip.{flag-read, level-read, pending-read, level-small, pending-small, amount-small}
+use Rattle.session.proofs.Sizes.{Sized, unselected-sized}
 
 -- from a place on, l has x and then the rest
 record Stands (l : List ℕ) (at : ℕ) (x rest : List ℕ) : Type 0 where
@@ -32,20 +32,6 @@ next {l} {x} {y} {rest} {at} n h e = record { is = sym (drop-drop n at l) ∙ ap
 read : {l x rest : List ℕ} {at : ℕ} (n : ℕ) → Stands l at x rest → length x ≡ n → field l at n ≡ x
 unfolding field
 read {l} {x} {rest} {at} n h e = rw (h .is, append-assoc) (take-at x (rest ++ zeros n) n e)
-
--- ---- bytes joined
-
-led : {x : ℕ} {n : ℕ} {s : List ℕ} → x < 256 → Array n s → Array (suc n) (x ∷ s)
-led {x} {n} {s} h a = record { long = ap suc (a .long); bytes = cons-bytes x s h (a .bytes) }
-
-joined : {n m : ℕ} {s t : List ℕ} → Array n s → Array m t → Array (n + m) (s ++ t)
-joined {n} {m} {s} {t} a b =
-    let p : length s ≡ n = a .long in
-    let q : length t ≡ m = b .long in
-    record { long = length-append s t ∙ omega arith; bytes = append-bytes s t (a .bytes) (b .bytes) }
-
-word-array : (n : ℕ) → n < 65536 → Array 2 (word n)
-word-array n h = record { long = refl; bytes = word-bytes n h }
 
 -- ---- the eight bytes before the keys
 
@@ -86,27 +72,27 @@ pub record Keyed (s : Session) (l : List ℕ) : Type 0 where
   pub rest : drop 96 l ≡ zeros 32
 
 module _ {s : Session} (h : Sized s) where
-  heading-array : Array 8 (heading s)
-  heading-array =
-      led (omega arith)
-      (led (flag-small (s .selected))
-      (led (flag-small (s .verified))
-      (led (level-small (s .channel .level))
-      (led (pending-small (s .pending))
-      (joined (word-array (amountOf (s .pending)) (h .amount)) (zeros-array 1))))))
+  heading-octets : Octets 8 (heading s)
+  heading-octets =
+      cons-octets (omega arith)
+      (cons-octets (flag-below (s .selected))
+      (cons-octets (flag-below (s .verified))
+      (cons-octets (level-small (s .channel .level))
+      (cons-octets (pending-small (s .pending))
+      (append-octets (word-octets (amountOf (s .pending)) (h .amount)) (zeros-octets 1))))))
 
   split : packed s ≡ heading s ++ after s
   unfolding packed
   split = simp append-assoc
 
   -- 128 bytes
-  pub packed-array : Array 128 (packed s)
+  pub packed-octets : Octets 128 (packed s)
   unfolding packed
-  packed-array =
+  packed-octets =
       let c = h .channel in
       let o = h .offer in
-      joined (joined (joined (joined (joined (joined (joined (joined heading-array (c .enc)) (c .mac)) (c .cmac)) (c .rmac)) (o .enc)) (o .mac)) (o .expected))
-      (zeros-array 32)
+      append-octets (append-octets (append-octets (append-octets (append-octets (append-octets (append-octets (append-octets heading-octets (c .enc)) (c .mac)) (c .cmac)) (c .rmac)) (o .enc)) (o .mac)) (o .expected))
+      (zeros-octets 32)
 
   -- keys and chains stand at their places
   pub keyed : Keyed s (packed s)
@@ -115,21 +101,21 @@ module _ {s : Session} (h : Sized s) where
       let o = h .offer in
       let p0 : Stands (packed s) 0 (heading s) (after s) = record { is = split } in
       let p1 = next 8 p0 refl in
-      let p2 = next 16 p1 (c .enc .long) in
-      let p3 = next 16 p2 (c .mac .long) in
-      let p4 = next 8 p3 (c .cmac .long) in
-      let p5 = next 8 p4 (c .rmac .long) in
-      let p6 = next 16 p5 (o .enc .long) in
-      let p7 = next 16 p6 (o .mac .long) in
+      let p2 = next 16 p1 (c .enc .size) in
+      let p3 = next 16 p2 (c .mac .size) in
+      let p4 = next 8 p3 (c .cmac .size) in
+      let p5 = next 8 p4 (c .rmac .size) in
+      let p6 = next 16 p5 (o .enc .size) in
+      let p7 = next 16 p6 (o .mac .size) in
       record {
-        enc = read 16 p1 (c .enc .long);
-        mac = read 16 p2 (c .mac .long);
-        cmac = read 8 p3 (c .cmac .long);
-        rmac = read 8 p4 (c .rmac .long);
-        offer-enc = read 16 p5 (o .enc .long);
-        offer-mac = read 16 p6 (o .mac .long);
-        expected = read 8 p7 (o .expected .long);
-        rest = sym (drop-drop 8 88 (packed s)) ∙ ap (drop 8) (p7 .is) ∙ drop-at (s .offer .expected) (zeros 32) 8 (o .expected .long);
+        enc = read 16 p1 (c .enc .size);
+        mac = read 16 p2 (c .mac .size);
+        cmac = read 8 p3 (c .cmac .size);
+        rmac = read 8 p4 (c .rmac .size);
+        offer-enc = read 16 p5 (o .enc .size);
+        offer-mac = read 16 p6 (o .mac .size);
+        expected = read 8 p7 (o .expected .size);
+        rest = sym (drop-drop 8 88 (packed s)) ∙ ap (drop 8) (p7 .is) ∙ drop-at (s .offer .expected) (zeros 32) 8 (o .expected .size);
       }
 
   decoded-packed : decoded (packed s) ≡ s
@@ -149,16 +135,13 @@ packed-one {s} {t} h k e = sym (decoded-packed h) ∙ ap decoded e ∙ decoded-p
 
 -- ---- what reads as a session
 
-field-array : (l : List ℕ) (at n : ℕ) → AreBytes l → Array n (field l at n)
-field-array l at n f = record { long = length-field l at n; bytes = field-bytes l at n f }
-
 decoded-sized : (l : List ℕ) → AreBytes l → Sized (decoded l)
 unfolding decoded decodedChannel decodedOffer
 decoded-sized l f =
     record {
-      channel = record { enc = field-array l 8 16 f; mac = field-array l 24 16 f; cmac = field-array l 40 8 f; rmac = field-array l 48 8 f };
+      channel = record { enc = field-octets l 8 16 f; mac = field-octets l 24 16 f; cmac = field-octets l 40 8 f; rmac = field-octets l 48 8 f };
       amount = amount-small (byteAt l 4) (wordAt l 5) (word-at-below l 5 f);
-      offer = record { enc = field-array l 56 16 f; mac = field-array l 72 16 f; expected = field-array l 88 8 f };
+      offer = record { enc = field-octets l 56 16 f; mac = field-octets l 72 16 f; expected = field-octets l 88 8 f };
     }
 
 by-test : (b : Bool) (x s : Session) → pick b (some x) none ≡ some s → (b ≡ true) × (x ≡ s)
@@ -178,8 +161,8 @@ module _ (l : List ℕ) (s : Session) (e : unpacked l ≡ some s) where
   pub reads-sized : AreBytes l → Sized s
   reads-sized f = rw (← tested .1) (decoded-sized l f)
 
-  pub reads-array : AreBytes l → Array 128 l
-  reads-array f = rw (← reads-packed) (packed-array (reads-sized f))
+  pub reads-octets : AreBytes l → Octets 128 l
+  reads-octets f = rw (← reads-packed) (packed-octets (reads-sized f))
 
 -- no other bytes read as that session
 pub reads-one : (l k : List ℕ) (s : Session) → unpacked l ≡ some s → unpacked k ≡ some s → l ≡ k

@@ -3,48 +3,38 @@
 use Prim.Native.Nat.{ℕ, _<_}
 use mathlib.Core.Bool.{Bool}
 use mathlib.Core.List.{List}
-use mathlib.Core.Path.{_≡_}
 use native.Mathlib.Omega.{arith}
-use lib.ListN.{length, length-replicate}
-use Rattle.octets.specs.Bytes.{AreBytes, zeros}
-use Rattle.octets.proofs.Ranges.{zeros-bytes}
+use Rattle.octets.specs.Bytes.{Octets}
+use Rattle.octets.proofs.Octets.{zeros-octets}
 use Rattle.session.specs.declared.Set.{Set}
 use Rattle.session.specs.declared.Channel.{Channel}
 use Rattle.session.specs.declared.Offer.{Offer}
 use Rattle.session.specs.declared.Pending.{Pending}
 use Rattle.session.specs.declared.Session.{Session}
-use Rattle.session.specs.Session.{noChannel, noOffer, unselected, ended, closed, reselected, flagged, offered, opened, chained, answered}
-use Rattle.session.specs.Packing.{amountOf}
-
--- n bytes
-pub record Array (n : ℕ) (x : List ℕ) : Type 0 where
-  pub long : length x ≡ n
-  pub bytes : AreBytes x
+use Rattle.session.specs.Transitions.{noChannel, noOffer, unselected, ended, closed, reselected, flagged, offered, opened, chained, answered}
+use Rattle.session.specs.Codes.{amountOf}
 
 pub record SizedChannel (c : Channel) : Type 0 where
-  pub enc : Array 16 (c .enc)
-  pub mac : Array 16 (c .mac)
-  pub cmac : Array 8 (c .cmac)
-  pub rmac : Array 8 (c .rmac)
+  pub enc : Octets 16 (c .enc)
+  pub mac : Octets 16 (c .mac)
+  pub cmac : Octets 8 (c .cmac)
+  pub rmac : Octets 8 (c .rmac)
 
 pub record SizedOffer (o : Offer) : Type 0 where
-  pub enc : Array 16 (o .enc)
-  pub mac : Array 16 (o .mac)
-  pub expected : Array 8 (o .expected)
+  pub enc : Octets 16 (o .enc)
+  pub mac : Octets 16 (o .mac)
+  pub expected : Octets 8 (o .expected)
 
 pub record Sized (s : Session) : Type 0 where
   pub channel : SizedChannel (s .channel)
   pub amount : amountOf (s .pending) < 65536
   pub offer : SizedOffer (s .offer)
 
-pub zeros-array : (n : ℕ) → Array n (zeros n)
-zeros-array n = record { long = length-replicate n 0; bytes = zeros-bytes n }
-
 pub no-channel-sized : SizedChannel noChannel
-no-channel-sized = record { enc = zeros-array 16; mac = zeros-array 16; cmac = zeros-array 8; rmac = zeros-array 8 }
+no-channel-sized = record { enc = zeros-octets 16; mac = zeros-octets 16; cmac = zeros-octets 8; rmac = zeros-octets 8 }
 
 pub no-offer-sized : SizedOffer noOffer
-no-offer-sized = record { enc = zeros-array 16; mac = zeros-array 16; expected = zeros-array 8 }
+no-offer-sized = record { enc = zeros-octets 16; mac = zeros-octets 16; expected = zeros-octets 8 }
 
 pub unselected-sized : Sized unselected
 unfolding unselected amountOf
@@ -75,7 +65,7 @@ module _ {s : Session} (h : Sized s) where
   unfolding opened amountOf
   opened-sized c = record { channel = c; amount = omega arith; offer = no-offer-sized }
 
-  pub chained-sized : {mac : List ℕ} → Array 8 mac → Sized (chained mac s)
+  pub chained-sized : {mac : List ℕ} → Octets 8 mac → Sized (chained mac s)
   unfolding chained
   chained-sized a =
       let c = h .channel in
@@ -85,7 +75,7 @@ module _ {s : Session} (h : Sized s) where
         offer = h .offer;
       }
 
-  pub answered-sized : (pending : Pending) {mac : List ℕ} → amountOf pending < 65536 → Array 8 mac → Sized (answered pending mac s)
+  pub answered-sized : (pending : Pending) {mac : List ℕ} → amountOf pending < 65536 → Octets 8 mac → Sized (answered pending mac s)
   unfolding answered
   answered-sized pending k a =
       let c = h .channel in

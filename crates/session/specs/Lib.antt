@@ -1,3 +1,4 @@
-pub mod Session
+pub mod Transitions
 pub mod Access
+pub mod Codes
 pub mod Packing

@@ -1,32 +1,31 @@
 // The session: a value that each call takes and hands back.
-mod changes;
-mod numbers;
+pub mod access;
+mod codes;
 mod packing;
-mod rights;
+mod transitions;
 
-pub use changes::answered;
-pub use changes::chained;
-pub use changes::closed;
-pub use changes::ended;
-pub use changes::flagged;
-pub use changes::offered;
-pub use changes::opened;
-pub use changes::reselected;
-pub use changes::unselected;
-pub use numbers::amount_of;
-pub use numbers::set_number;
-pub use numbers::set_of;
+pub use access::ADMIN;
+pub use access::CREDIT;
+pub use access::DEBIT;
+pub use access::PUBLIC;
+pub use access::access_of;
+pub use access::has_rmac;
+pub use access::is_open;
+pub use codes::amount_of;
+pub use codes::set_number;
+pub use codes::set_of;
 pub use packing::Unpacked;
 pub use packing::pack;
 pub use packing::unpack;
-pub use rights::ADMIN;
-pub use rights::CREDIT;
-pub use rights::DEBIT;
-pub use rights::PUBLIC;
-pub use rights::access;
-pub use rights::access_of;
-pub use rights::has_rmac;
-pub use rights::is_open;
+pub use transitions::answered;
+pub use transitions::chained;
+pub use transitions::closed;
+pub use transitions::ended;
+pub use transitions::flagged;
+pub use transitions::offered;
+pub use transitions::opened;
+pub use transitions::reselected;
+pub use transitions::unselected;
 
 // Key sets 1, 2 and 3.
 pub enum Set {

@@ -6,7 +6,7 @@ use native.Mathlib.Omega.{arith}
 use borrow.Author.Tests.{leb-true}
 use Rattle.card.specs.declared.head.Head.{Head}
 use Rattle.session.specs.declared.Session.{Session}
-use Rattle.session.specs.Packing.{amountOf}
+use Rattle.session.specs.Codes.{amountOf}
 use Rattle.commands_spec.specs.Transaction.{newBalance, keepsLimits}
 use Rattle.commands_spec.specs.CompleteTransaction.{isDebit, completeJudged}
 use Rattle.commands_spec.proofs.Judgements.{complete-passed}

@@ -1,9 +1,6 @@
 // VERIFY PIN, INITIALIZE TRANSACTION and COMPLETE TRANSACTION on a card in hand, past the tests of the command's bytes and C-MAC.
-mod answering;
-mod completing;
-mod initializing;
-mod verifying;
-
-pub use completing::complete_transaction;
-pub use initializing::initialize_transaction;
-pub use verifying::verify_pin;
+mod answer;
+pub mod complete_transaction;
+pub mod initialize_transaction;
+mod sums;
+pub mod verify_pin;

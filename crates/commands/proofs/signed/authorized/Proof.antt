@@ -8,18 +8,6 @@ use borrow.Author.Needs.{needs}
 use Rattle.commands.proofs.signed.authorized.Statement.{statement}
 use Rattle.commands.proofs.signed.authorized.Tie as tie
 
-sub-n : tie.Need-sub-n
-sub-n c = omega (arith, signed-least _ _ (c .before .before .before .before .before .pre .1))
-
-cast-n : tie.Need-cast-n
-cast-n c = search needs
-
-add-cmac : tie.Need-add-cmac
-add-cmac c = search needs
-
-cmac-requires : tie.Need-cmac-requires
-cmac-requires c κs = search needs
-
 is-open-requires : tie.Need-is-open-requires
 is-open-requires c κs = search needs
 
@@ -30,9 +18,19 @@ refused-requires : tie.Need-refused-requires
 refused-requires c κs = search needs
 
 returns : tie.Need-returns
-returns c =
-    let d = c .before .before in
-    unsigned _ _ _ _ _ _ (sym (d .before .is-open .ensures) ∙ not-true _ (d .if1 .taken)) (rw (← c .before .closed .ensures) (c .refused .ensures))
+returns c = unsigned _ _ _ _ _ _ (sym (c .before .before .before .is-open .ensures) ∙ not-true _ (c .before .before .if1 .taken)) (rw (← c .before .closed .ensures) (c .refused .ensures))
+
+sub-n : tie.Need-sub-n
+sub-n c = omega (arith, signed-least _ _ (c .before .before .before .before .before .before .before .pre .1))
+
+cast-n : tie.Need-cast-n
+cast-n c = search needs
+
+add-cmac : tie.Need-add-cmac
+add-cmac c = search needs
+
+cmac-requires : tie.Need-cmac-requires
+cmac-requires c κs = search needs
 
 add-part8 : tie.Need-add-part8
 add-part8 c = search needs
@@ -57,55 +55,25 @@ refused-requires-2 c κs = search needs
 
 returns-2 : tie.Need-returns-2
 returns-2 c =
-    let d = c .before .before .before in
-    let p = d .before .before .before in
-    let m = p .before .before .before in
-    let s = m .before .before .before .before .before .before in
-    let l = signed-least _ _ (s .pre .1) in
-    wrongly-signed _ _ _ _ _ _
-    (rw (← mac-sent _ _ (s .pre .0) l, ← p .part8 .ensures, ← m .cmac .ensures, ← d .same .ensures) (not-true _ (c .before .before .if2 .taken)))
-    (rw (← c .before .closed2 .ensures) (c .refused2 .ensures))
+    let sent = mac-sent _ _ (c .before .before .before .before .before .before .before .before .before .before .before .before .before .before .before .pre .0) (signed-least _ _ (c .before .before .before .before .before .before .before .before .before .before .before .before .before .before .before .pre .1)) in
+    wrongly-signed _ _ _ _ _ _ (rw (← sent, ← c .before .before .before .before .before .before .part8 .ensures, ← c .before .before .before .before .before .before .before .cmac .ensures, ← c .before .before .before .same .ensures) (not-true _ (c .before .before .if2 .taken))) (rw (← c .before .closed2 .ensures) (c .refused2 .ensures))
 
 chained-requires : tie.Need-chained-requires
 chained-requires c κs = search needs
 
 signed-requires : tie.Need-signed-requires
-signed-requires c κs =
-    let s = c .before .before .before .before .before .before .before .before .before .before .before .before .before .before in
-    (s .pre .0, s .pre .1, refl)
+signed-requires c κs = (c .before .before .before .before .before .before .before .before .before .before .before .before .before .before .pre .0, c .before .before .before .before .before .before .before .before .before .before .before .before .before .before .pre .1, refl)
 
 returns-3 : tie.Need-returns-3
 returns-3 c =
-    let d = c .before .before .before in
-    let p = d .before .before .before in
-    let o = p .before .before in
-    let m = o .before in
-    let s = m .before .before .before .before .before .before in
-    let l = signed-least _ _ (s .pre .1) in
-    rightly-signed _ _ _ _ _ _ (sym (o .is-open .ensures) ∙ not-false _ (p .before .if1 .left))
-    (rw (← mac-sent _ _ (s .pre .0) l, ← p .part8 .ensures, ← m .cmac .ensures, ← d .same .ensures) (not-false _ (c .before .before .if2 .left)))
-    (rw (← m .cmac .ensures, ← c .before .chained .ensures) (c .signed .ensures))
+    let sent = mac-sent _ _ (c .before .before .before .before .before .before .before .before .before .before .before .before .before .before .before .pre .0) (signed-least _ _ (c .before .before .before .before .before .before .before .before .before .before .before .before .before .before .before .pre .1)) in
+    rightly-signed _ _ _ _ _ _ (sym (c .before .before .before .before .before .before .before .before .before .before .is-open .ensures) ∙ not-false _ (c .before .before .before .before .before .before .before .before .before .if1 .left))
+    (rw (← sent, ← c .before .before .before .before .before .before .part8 .ensures, ← c .before .before .before .before .before .before .before .cmac .ensures, ← c .before .before .before .same .ensures) (not-false _ (c .before .before .if2 .left)))
+    (rw (← c .before .before .before .before .before .before .before .cmac .ensures, ← c .before .chained .ensures) (c .signed .ensures))
 
 pub authorized-spec : {M : Type 1} → statement M
 authorized-spec =
     tie.close
-    (tie.spec
-    sub-n
-    cast-n
-    add-cmac
-    cmac-requires
-    is-open-requires
-    closed-requires
-    refused-requires
-    returns
-    add-part8
-    part8-requires
-    slice-aggregate-same
-    slice-aggregate-same-2
-    same-requires
-    closed-requires-2
-    refused-requires-2
-    returns-2
-    chained-requires
-    signed-requires
+    (tie.spec is-open-requires closed-requires refused-requires returns sub-n cast-n add-cmac cmac-requires add-part8 part8-requires
+    slice-aggregate-same slice-aggregate-same-2 same-requires closed-requires-2 refused-requires-2 returns-2 chained-requires signed-requires
     returns-3)

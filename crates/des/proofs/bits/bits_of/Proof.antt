@@ -7,7 +7,7 @@ use lib.ListN.{length}
 use Rattle.des_spec.specs.Bits.{bitsOf}
 use Rattle.des_spec.proofs.Lengths.{length-bitsOf}
 use Rattle.des_spec.proofs.Elements.{getD-bitsOf}
-use Rattle.des.proofs.Fill.{Filled, start, step, done}
+use Rattle.octets.proofs.Filling.{Filled, fill-start, fill-step, fill-done}
 use Rattle.des.proofs.bits.bits_of.Statement.{statement}
 use Rattle.des.proofs.bits.bits_of.Tie as tie
 
@@ -20,7 +20,7 @@ abbrev μ-loop : tie.MeasureT-loop
 loop-holds : tie.Need-loop-holds Inv-loop μ-loop
 loop-holds c =
     let e : length (c .args .t1) ≡ 8 = search needs in
-    start (omega (arith, length-bitsOf (c .args .t1)))
+    fill-start (omega (arith, length-bitsOf (c .args .t1)))
 
 array-read-bit : tie.Need-array-read-bit Inv-loop μ-loop
 array-read-bit c = search needs
@@ -45,13 +45,13 @@ loop-again c =
     let h = c .before .before in
     let x = h .before .args .t1 in
     let e : length x ≡ 8 = search needs in
-    step 0 (h .loop .inv) (omega (arith, length-bitsOf x)) (c .bit .ensures ∙ sym (getD-bitsOf x (h .loop .i) (omega arith)))
+    fill-step 0 (h .loop .inv) (omega (arith, length-bitsOf x)) (c .bit .ensures ∙ sym (getD-bitsOf x (h .loop .i) (omega arith)))
 
 returns : tie.Need-returns Inv-loop μ-loop
 returns c =
     let x = c .before .before .args .t1 in
     let e : length x ≡ 8 = search needs in
-    done (c .before .loop .inv) (omega (arith, length-bitsOf x))
+    fill-done (c .before .loop .inv) (omega (arith, length-bitsOf x))
 
 pub bits-of-spec : {M : Type 1} → statement M
 bits-of-spec =

@@ -8,7 +8,7 @@ use Rattle.des_spec.specs.Bits.{number, bytesOf}
 use Rattle.des_spec.proofs.Rows.{below-take, below-drop, length-part}
 use Rattle.des_spec.proofs.Lengths.{length-bytesOf}
 use Rattle.des_spec.proofs.Elements.{getD-bytesOf}
-use Rattle.des.proofs.Fill.{Filled, start, step, done}
+use Rattle.octets.proofs.Filling.{Filled, fill-start, fill-step, fill-done}
 use Rattle.des.proofs.bits.bytes_of.Statement.{statement}
 use Rattle.des.proofs.bits.bytes_of.Tie as tie
 
@@ -19,7 +19,7 @@ abbrev μ-loop : tie.MeasureT-loop
 μ-loop bits out₀ i₀ out i = 8 - i
 
 loop-holds : tie.Need-loop-holds Inv-loop μ-loop
-loop-holds c = start (sym (length-bytesOf 8 _))
+loop-holds c = fill-start (sym (length-bytesOf 8 _))
 
 mul-from : tie.Need-mul-from Inv-loop μ-loop
 mul-from c = search needs
@@ -60,11 +60,11 @@ loop-again c =
     let x = h .before .args .t1 in
     let i = h .loop .i in
     let n : 8 * i + 8 - 8 * i ≡ 8 = omega arith in
-    step 0 (h .loop .inv) (omega (arith, length-bytesOf 8 x))
+    fill-step 0 (h .loop .inv) (omega (arith, length-bytesOf 8 x))
     (c .number .ensures ∙ ap (λ (m : ℕ). number (take m (drop (8 * i) x))) n ∙ sym (getD-bytesOf 8 x i (omega arith)))
 
 returns : tie.Need-returns Inv-loop μ-loop
-returns c = done (c .before .loop .inv) (omega (arith, length-bytesOf 8 (c .before .before .args .t1)))
+returns c = fill-done (c .before .loop .inv) (omega (arith, length-bytesOf 8 (c .before .before .args .t1)))
 
 pub bytes-of-spec : {M : Type 1} → statement M
 bytes-of-spec =

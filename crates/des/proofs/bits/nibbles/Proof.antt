@@ -5,7 +5,7 @@ use native.Mathlib.Omega.{arith}
 use borrow.Author.Needs.{needs}
 use lib.ListN.{length}
 use Rattle.des_spec.specs.Bits.{binaries}
-use Rattle.des.proofs.Fill.{Filled, start, step, done}
+use Rattle.octets.proofs.Filling.{Filled, fill-start, fill-step, fill-done}
 use Rattle.des.proofs.Places.{length-nibbles, getD-nibbles}
 use Rattle.des.proofs.bits.nibbles.Statement.{statement}
 use Rattle.des.proofs.bits.nibbles.Tie as tie
@@ -17,7 +17,7 @@ abbrev μ-loop : tie.MeasureT-loop
 μ-loop numbers out₀ i₀ out i = 32 - i
 
 loop-holds : tie.Need-loop-holds Inv-loop μ-loop
-loop-holds c = start (sym (length-nibbles (c .args .t1) (search needs)))
+loop-holds c = fill-start (sym (length-nibbles (c .args .t1) (search needs)))
 
 array-read-bit : tie.Need-array-read-bit Inv-loop μ-loop
 array-read-bit c = search needs
@@ -42,13 +42,13 @@ loop-again c =
     let h = c .before .before in
     let x = h .before .args .t1 in
     let e : length x ≡ 8 = search needs in
-    step 0 (h .loop .inv) (omega (arith, length-nibbles x e)) (c .bit .ensures ∙ sym (getD-nibbles x (h .loop .i) e (search needs)))
+    fill-step 0 (h .loop .inv) (omega (arith, length-nibbles x e)) (c .bit .ensures ∙ sym (getD-nibbles x (h .loop .i) e (search needs)))
 
 returns : tie.Need-returns Inv-loop μ-loop
 returns c =
     let x = c .before .before .args .t1 in
     let e : length x ≡ 8 = search needs in
-    done (c .before .loop .inv) (omega (arith, length-nibbles x e))
+    fill-done (c .before .loop .inv) (omega (arith, length-nibbles x e))
 
 pub nibbles-spec : {M : Type 1} → statement M
 nibbles-spec =

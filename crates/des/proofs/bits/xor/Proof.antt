@@ -7,7 +7,7 @@ use lib.ListN.{length, length-set}
 use Rattle.des_spec.specs.Bits.{xor}
 use Rattle.des_spec.proofs.Lengths.{length-xor}
 use Rattle.des_spec.proofs.Elements.{getD-xor}
-use Rattle.des.proofs.Fill.{Filled, start, step, done}
+use Rattle.octets.proofs.Filling.{Filled, fill-start, fill-step, fill-done}
 use Rattle.des.proofs.bits.xor.Statement.{statement}
 use Rattle.des.proofs.bits.xor.Tie as tie
 
@@ -21,7 +21,7 @@ loop-holds : tie.Need-loop-holds Inv-loop μ-loop
 loop-holds c =
     let a = c .args .a .now in
     let b = c .args .b .now in
-    (start (omega (arith, length-xor a b (omega arith))), omega arith)
+    (fill-start (omega (arith, length-xor a b (omega arith))), omega arith)
 
 shared-slice-read-out : tie.Need-shared-slice-read-out Inv-loop μ-loop
 shared-slice-read-out c = search needs
@@ -47,7 +47,7 @@ loop-again c =
     let a = h .before .args .a .now in
     let b = h .before .args .b .now in
     let e = length-xor a b (omega arith) in
-    (step 0 (h .loop .inv .0) (omega (arith, e)) (omega (arith, getD-xor a b (h .loop .i) (omega arith) (omega arith))), simp length-set (h .loop .inv .1))
+    (fill-step 0 (h .loop .inv .0) (omega (arith, e)) (omega (arith, getD-xor a b (h .loop .i) (omega arith) (omega arith))), simp length-set (h .loop .inv .1))
 
 same-length : tie.Need-same-length Inv-loop μ-loop
 same-length c = search needs
@@ -55,7 +55,7 @@ same-length c = search needs
 returns : tie.Need-returns Inv-loop μ-loop
 returns c =
     let a = c .before .before .args in
-    done (c .before .loop .inv .0) (omega (arith, length-xor (a .a .now) (a .b .now) (omega arith)))
+    fill-done (c .before .loop .inv .0) (omega (arith, length-xor (a .a .now) (a .b .now) (omega arith)))
 
 pub xor-spec : {M : Type 1} → statement M
 xor-spec =

@@ -7,7 +7,7 @@ use lib.ListN.{length, length-set}
 use Rattle.des_spec.specs.Des.{permute}
 use Rattle.des_spec.proofs.Lengths.{length-permute}
 use Rattle.des_spec.proofs.Elements.{getD-permute}
-use Rattle.des.proofs.Fill.{Filled, start, step, done}
+use Rattle.octets.proofs.Filling.{Filled, fill-start, fill-step, fill-done}
 use Rattle.des.proofs.permutations.permute.Statement.{statement}
 use Rattle.des.proofs.permutations.permute.Tie as tie
 
@@ -18,7 +18,7 @@ abbrev μ-loop : tie.MeasureT-loop
 μ-loop table bits out₀ i₀ out i = length table - i
 
 loop-holds : tie.Need-loop-holds Inv-loop μ-loop
-loop-holds c = (start (sym (c .pre .0) ∙ sym (length-permute _ _)), sym (c .pre .0))
+loop-holds c = (fill-start (sym (c .pre .0) ∙ sym (length-permute _ _)), sym (c .pre .0))
 
 shared-slice-read-out : tie.Need-shared-slice-read-out Inv-loop μ-loop
 shared-slice-read-out c = search needs
@@ -49,7 +49,7 @@ loop-again c =
     let h = c .before .before .before in
     let t = h .before .args .table .now in
     let b = h .before .args .bits .now in
-    (step 0 (h .loop .inv .0) (omega (arith, length-permute t b)) (sym (getD-permute t b (h .loop .i) (search needs))), simp length-set (h .loop .inv .1))
+    (fill-step 0 (h .loop .inv .0) (omega (arith, length-permute t b)) (sym (getD-permute t b (h .loop .i) (search needs))), simp length-set (h .loop .inv .1))
 
 same-length : tie.Need-same-length Inv-loop μ-loop
 same-length c = search needs
@@ -57,7 +57,7 @@ same-length c = search needs
 returns : tie.Need-returns Inv-loop μ-loop
 returns c =
     let a = c .before .before .args in
-    done (c .before .loop .inv .0) (omega (arith, length-permute (a .table .now) (a .bits .now)))
+    fill-done (c .before .loop .inv .0) (omega (arith, length-permute (a .table .now) (a .bits .now)))
 
 pub permute-spec : {M : Type 1} → statement M
 permute-spec =

@@ -5,7 +5,7 @@ use native.Mathlib.Omega.{arith}
 use borrow.Author.Needs.{needs}
 use lib.ListN.{length, take, drop}
 use Rattle.des_spec.proofs.Rows.{length-part, getD-part}
-use Rattle.des.proofs.Fill.{Filled, start, step, done}
+use Rattle.octets.proofs.Filling.{Filled, fill-start, fill-step, fill-done}
 use Rattle.des.proofs.rounds.half.Statement.{statement}
 use Rattle.des.proofs.rounds.half.Tie as tie
 
@@ -18,7 +18,7 @@ abbrev μ-loop : tie.MeasureT-loop
 loop-holds : tie.Need-loop-holds Inv-loop μ-loop
 loop-holds c =
     let e : length (c .args .t1) ≡ 64 = search needs in
-    start (sym (length-part (c .args .t1) (c .args .from) 32 (omega arith)))
+    fill-start (sym (length-part (c .args .t1) (c .args .from) 32 (omega arith)))
 
 add-out : tie.Need-add-out Inv-loop μ-loop
 add-out c = search needs
@@ -40,13 +40,13 @@ loop-again c =
     let h = c .before in
     let a = h .before .args in
     let e : length (a .t1) ≡ 64 = search needs in
-    step 0 (h .loop .inv) (omega (arith, length-part (a .t1) (a .from) 32 (omega arith))) (sym (getD-part (a .t1) (a .from) 32 (h .loop .i) (search needs)))
+    fill-step 0 (h .loop .inv) (omega (arith, length-part (a .t1) (a .from) 32 (omega arith))) (sym (getD-part (a .t1) (a .from) 32 (h .loop .i) (search needs)))
 
 returns : tie.Need-returns Inv-loop μ-loop
 returns c =
     let a = c .before .before .args in
     let e : length (a .t1) ≡ 64 = search needs in
-    done (c .before .loop .inv) (omega (arith, length-part (a .t1) (a .from) 32 (omega arith)))
+    fill-done (c .before .loop .inv) (omega (arith, length-part (a .t1) (a .from) 32 (omega arith)))
 
 pub half-spec : {M : Type 1} → statement M
 half-spec =

@@ -5,7 +5,7 @@ use mathlib.Core.List.{_++_}
 use native.Mathlib.Omega.{arith}
 use borrow.Author.Needs.{needs}
 use lib.ListN.{length, length-append}
-use Rattle.des.proofs.Fill.{Filled, start, step, done}
+use Rattle.octets.proofs.Filling.{Filled, fill-start, fill-step, fill-done}
 use Rattle.des.proofs.rounds.join.Statement.{statement}
 use Rattle.des.proofs.rounds.join.Tie as tie
 
@@ -20,7 +20,7 @@ loop-holds c =
     let a = c .args in
     let e : length (a .a) ≡ 32 = search needs in
     let f : length (a .b) ≡ 32 = search needs in
-    start (omega (arith, length-append (a .a) (a .b)))
+    fill-start (omega (arith, length-append (a .a) (a .b)))
 
 bit-of-requires : tie.Need-bit-of-requires Inv-loop μ-loop
 bit-of-requires c κs = search needs
@@ -40,14 +40,14 @@ loop-again c =
     let a = h .before .args in
     let e : length (a .a) ≡ 32 = search needs in
     let f : length (a .b) ≡ 32 = search needs in
-    step 0 (h .loop .inv) (omega (arith, length-append (a .a) (a .b))) (c .bit-of .ensures)
+    fill-step 0 (h .loop .inv) (omega (arith, length-append (a .a) (a .b))) (c .bit-of .ensures)
 
 returns : tie.Need-returns Inv-loop μ-loop
 returns c =
     let a = c .before .before .args in
     let e : length (a .a) ≡ 32 = search needs in
     let f : length (a .b) ≡ 32 = search needs in
-    done (c .before .loop .inv) (omega (arith, length-append (a .a) (a .b)))
+    fill-done (c .before .loop .inv) (omega (arith, length-append (a .a) (a .b)))
 
 pub join-spec : {M : Type 1} → statement M
 join-spec =

@@ -5,7 +5,7 @@ use mathlib.Core.List.{[], reverse}
 use native.Mathlib.Omega.{arith}
 use borrow.Author.Needs.{needs}
 use lib.ListN.{length, getD, length-reverse}
-use Rattle.des.proofs.Fill.{Filled, start, step, done}
+use Rattle.octets.proofs.Filling.{Filled, fill-start, fill-step, fill-done}
 use Rattle.des.proofs.Places.{getD-reverse}
 use Rattle.des.proofs.schedule.reversed.Statement.{statement}
 use Rattle.des.proofs.schedule.reversed.Tie as tie
@@ -19,7 +19,7 @@ abbrev μ-loop : tie.MeasureT-loop
 loop-holds : tie.Need-loop-holds Inv-loop μ-loop
 loop-holds c =
     let e : length (c .args .t1) ≡ 16 = search needs in
-    start (omega (arith, length-reverse (c .args .t1)))
+    fill-start (omega (arith, length-reverse (c .args .t1)))
 
 sub-key : tie.Need-sub-key Inv-loop μ-loop
 sub-key c = search needs
@@ -48,13 +48,13 @@ loop-again c =
     let x = h .before .args .t1 in
     let e : length x ≡ 16 = search needs in
     let d : 15 - h .loop .i ≡ length x - 1 - h .loop .i = omega arith in
-    step [] (h .loop .inv) (omega (arith, length-reverse x)) (ap (λ (m : ℕ). getD x m []) d ∙ sym (getD-reverse x (h .loop .i) (omega arith)))
+    fill-step [] (h .loop .inv) (omega (arith, length-reverse x)) (ap (λ (m : ℕ). getD x m []) d ∙ sym (getD-reverse x (h .loop .i) (omega arith)))
 
 returns : tie.Need-returns Inv-loop μ-loop
 returns c =
     let x = c .before .before .args .t1 in
     let e : length x ≡ 16 = search needs in
-    done (c .before .loop .inv) (omega (arith, length-reverse x))
+    fill-done (c .before .loop .inv) (omega (arith, length-reverse x))
 
 pub reversed-spec : {M : Type 1} → statement M
 reversed-spec =

@@ -9,7 +9,7 @@ use Rattle.des_spec.specs.Tables.{shifts, PC2}
 use Rattle.des_spec.specs.Des.{schedule, keysFrom, permute}
 use Rattle.des_spec.proofs.Lengths.{length-keysFrom}
 use Rattle.des_spec.proofs.Permutations.{names}
-use Rattle.des.proofs.Fill.{Filled, start, step, done}
+use Rattle.octets.proofs.Filling.{Filled, fill-start, fill-step, fill-done}
 use Rattle.des.proofs.Turns.{keys-next}
 use Rattle.des.proofs.schedule.schedule.Statement.{statement}
 use Rattle.des.proofs.schedule.schedule.Tie as tie
@@ -25,7 +25,7 @@ choice1-requires c κs = search needs
 
 loop-holds : tie.Need-loop-holds Inv-loop μ-loop
 unfolding shifts
-loop-holds c = (start (sym (length-keysFrom shifts (c .choice1 .result))), refl, refl)
+loop-holds c = (fill-start (sym (length-keysFrom shifts (c .choice1 .result))), refl, refl)
 
 mul-shift-halves : tie.Need-mul-shift-halves Inv-loop μ-loop
 mul-shift-halves c = search needs
@@ -61,13 +61,13 @@ loop-again c =
     let e = length-keysFrom shifts first in
     let k = keys-next shifts (h .loop .halves) (keysFrom shifts first) i (getD shifts i 0) (h .loop .inv .1) (search needs) e refl in
     let s = c .before .shift-halves .ensures in
-    (step [] (h .loop .inv .0) (omega (arith, e)) (c .choice2 .ensures ∙ ap (permute PC2) s ∙ k .0), ap (keysFrom (drop (i + 1) shifts)) s ∙ k .1, refl)
+    (fill-step [] (h .loop .inv .0) (omega (arith, e)) (c .choice2 .ensures ∙ ap (permute PC2) s ∙ k .0), ap (keysFrom (drop (i + 1) shifts)) s ∙ k .1, refl)
 
 returns : tie.Need-returns Inv-loop μ-loop
 unfolding schedule shifts
 returns c =
     let h = c .before in
-    done (h .loop .inv .0) (omega (arith, length-keysFrom shifts (h .before .choice1 .result))) ∙ ap (keysFrom shifts) (h .before .choice1 .ensures)
+    fill-done (h .loop .inv .0) (omega (arith, length-keysFrom shifts (h .before .choice1 .result))) ∙ ap (keysFrom shifts) (h .before .choice1 .ensures)
 
 pub schedule-spec : {M : Type 1} → statement M
 schedule-spec =

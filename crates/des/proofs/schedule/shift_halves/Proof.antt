@@ -6,7 +6,7 @@ use borrow.Author.Needs.{needs}
 use lib.ListN.{length}
 use Rattle.des_spec.specs.Des.{shiftHalves}
 use Rattle.des_spec.proofs.Lengths.{length-shiftHalves}
-use Rattle.des.proofs.Fill.{Filled, start, step, done}
+use Rattle.octets.proofs.Filling.{Filled, fill-start, fill-step, fill-done}
 use Rattle.des.proofs.Places.{getD-shiftHalves}
 use Rattle.des.proofs.schedule.shift_halves.Statement.{statement}
 use Rattle.des.proofs.schedule.shift_halves.Tie as tie
@@ -20,7 +20,7 @@ abbrev μ-loop : tie.MeasureT-loop
 loop-holds : tie.Need-loop-holds Inv-loop μ-loop
 loop-holds c =
     let e : length (c .args .t1) ≡ 56 = search needs in
-    start (sym (length-shiftHalves (c .args .n) (c .args .t1) e (c .pre)))
+    fill-start (sym (length-shiftHalves (c .args .n) (c .args .t1) e (c .pre)))
 
 mul-out : tie.Need-mul-out Inv-loop μ-loop
 mul-out c = search needs
@@ -48,14 +48,14 @@ loop-again c =
     let h = c .before in
     let a = h .before .args in
     let e : length (a .t1) ≡ 56 = search needs in
-    step 0 (h .loop .inv) (omega (arith, length-shiftHalves (a .n) (a .t1) e (search needs)))
+    fill-step 0 (h .loop .inv) (omega (arith, length-shiftHalves (a .n) (a .t1) e (search needs)))
     (sym (getD-shiftHalves (a .n) (a .t1) (h .loop .i) e (search needs) (search needs)))
 
 returns : tie.Need-returns Inv-loop μ-loop
 returns c =
     let a = c .before .before .args in
     let e : length (a .t1) ≡ 56 = search needs in
-    done (c .before .loop .inv) (omega (arith, length-shiftHalves (a .n) (a .t1) e (search needs)))
+    fill-done (c .before .loop .inv) (omega (arith, length-shiftHalves (a .n) (a .t1) e (search needs)))
 
 pub shift-halves-spec : {M : Type 1} → statement M
 shift-halves-spec =

@@ -5,7 +5,7 @@ use native.Mathlib.Omega.{arith}
 use borrow.Author.Needs.{needs}
 use Rattle.des_spec.specs.Tables.{S}
 use Rattle.des_spec.specs.Des.{selects}
-use Rattle.des.proofs.Fill.{Filled, start, step, done}
+use Rattle.octets.proofs.Filling.{Filled, fill-start, fill-step, fill-done}
 use Rattle.des.proofs.Places.{length-S, length-entries, getD-selects}
 use Rattle.des.proofs.selection.selects.Statement.{statement}
 use Rattle.des.proofs.selection.selects.Tie as tie
@@ -17,7 +17,7 @@ abbrev μ-loop : tie.MeasureT-loop
 μ-loop sum out₀ i₀ out i = 8 - i
 
 loop-holds : tie.Need-loop-holds Inv-loop μ-loop
-loop-holds c = start (sym (length-entries (c .args .sum)))
+loop-holds c = fill-start (sym (length-entries (c .args .sum)))
 
 select-requires : tie.Need-select-requires Inv-loop μ-loop
 select-requires c κs = search needs
@@ -35,10 +35,10 @@ loop-again : tie.Need-loop-again Inv-loop μ-loop
 loop-again c =
     let h = c .before .before in
     let x = h .before .args .sum in
-    step 0 (h .loop .inv) (omega (arith, length-entries x)) (c .select .ensures ∙ sym (getD-selects S x (h .loop .i) (omega (arith, length-S))))
+    fill-step 0 (h .loop .inv) (omega (arith, length-entries x)) (c .select .ensures ∙ sym (getD-selects S x (h .loop .i) (omega (arith, length-S))))
 
 returns : tie.Need-returns Inv-loop μ-loop
-returns c = done (c .before .loop .inv) (omega (arith, length-entries (c .before .before .args .sum)))
+returns c = fill-done (c .before .loop .inv) (omega (arith, length-entries (c .before .before .args .sum)))
 
 pub selects-spec : {M : Type 1} → statement M
 selects-spec =
