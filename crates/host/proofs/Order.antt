@@ -173,7 +173,8 @@ ReadsAs (start limit) area s = Unit {0}
 ReadsAs (send bytes random response limit) area s = unpacked area ≡ some s
 
 -- past 1, 3, 4 and 8 a call hands over what the purse gives in that session
-pub hands : (x : Call) (m area : List ℕ) (s : Session) → AreBytes m → AreBytes area → OfBytes x → NoReason (areaReasons x m area) → ReadsAs x area s
+pub hands : (x : Call) (m area : List ℕ) (s : Session) → (memory : AreBytes m) → (session : AreBytes area) → (given : OfBytes x)
+    → (no-reason : NoReason (areaReasons x m area)) → (reads : ReadsAs x area s)
     → Hands (run x (situated m s)) area (hosted x m area)
 unfolding areaReasons ReadsAs hosted run
 hands (install d limit) m area s f g k n u =

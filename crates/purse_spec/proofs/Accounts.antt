@@ -14,12 +14,9 @@ use Rattle.octets.proofs.Conditions.{and-both}
 use Rattle.purse_spec.specs.Calls.{Run}
 use Rattle.purse_spec.specs.History.{install, start, send}
 use Rattle.purse_spec.specs.Ledger.{Note, Ledger, empty, noting, addedTo, statusWord, isInitialize, isComplete, noteOf, fedCommand, fed}
+use Rattle.purse_spec.proofs.Names.{Begins, begins}
 
 -- ---- what happens to a book b, which becomes c
-
--- a command by its first two bytes
-abbrev pub Begins : List ℕ → ℕ → ℕ → Type 0
-Begins bytes cla ins = (byteAt bytes 0 ≡ cla) × (byteAt bytes 1 ≡ ins)
 
 -- another note, or none, and the sum as it was
 pub record Notes (n : Option Note) (b c : Ledger) : Type 0 where
@@ -91,10 +88,6 @@ adds b (some n) e =
       debit = λ k h. let q : n ≡ record { debit = true; amount = k } = cc in rw q (refl, refl);
       nothing = λ h. absurd (let z : _≡_ {A = ℕ} 0 1 = cc in omega arith);
     }
-
--- the tests of a command's first two bytes
-begins : (bytes : List ℕ) (ins : ℕ) → (eqb (byteAt bytes 0) 0x94 && eqb (byteAt bytes 1) ins) ≡ true → Begins bytes 0x94 ins
-begins bytes ins t = let u = and-both (eqb (byteAt bytes 0) 0x94) (eqb (byteAt bytes 1) ins) t in (eqb-true _ _ (u .0), eqb-true _ _ (u .1))
 
 -- a command with 9000 isn't one that begins otherwise
 not-so : (bytes : List ℕ) (r : Run) (ins : ℕ) → (Begins bytes 0x94 ins → statusWord r ≡ 0x9000 → ⊥) → (eqb (byteAt bytes 0) 0x94 && eqb (byteAt bytes 1) ins && eqb (statusWord r) 0x9000) ≡ false

@@ -164,7 +164,7 @@ refusal-number (send bytes random area limit) st n =
     (rule-number n (omega arith, omega arith) (rule-number n (omega arith, omega arith) (rule-number n (omega arith, omega arith) (λ z. absurd z)))))
 
 -- "Answers 1 to 6 .. change no area and no session", and "report 0", each where its reason is the first that holds
-pub refused-whole : (x : Call) (st : Situation) → Typed st → OfBytes x → (n : ℕ) → FirstReason (reasons x st) n
+pub refused-whole : (x : Call) (st : Situation) → (typed : Typed st) → (given : OfBytes x) → (n : ℕ) → (first : FirstReason (reasons x st) n)
     → run x st ≡ record { answer = n; count = 0; session = sessionFor x st; memory = st .memory; length = 0; response = areaFor x }
 unfolding Due
 refused-whole x st t f n a =

@@ -27,7 +27,6 @@ use Rattle.session.specs.Codes.{amountOf}
 use Rattle.session.proofs.Sizes.{Sized, unselected-sized}
 use Rattle.apdu.specs.declared.instructions.Signed.the-variants.{InitializeTransaction, CompleteTransaction}
 use Rattle.apdu.specs.declared.instructions.Instruction.the-variants.{IsSigned}
-use Rattle.apdu.specs.Instructions.{of94}
 use Rattle.commands_spec.specs.declared.outcome.Outcome.{Outcome}
 use Rattle.commands_spec.specs.InitializeTransaction.{noted}
 use Rattle.commands_spec.specs.CompleteTransaction.{isNoted, isDebit}
@@ -45,7 +44,7 @@ use Rattle.purse_spec.specs.History.{Call, install, start, send, Situati
 use Rattle.purse_spec.specs.Ledger.{Note, Ledger, noting, addedTo, statusWord, isInitialize, isComplete, noteOf, numberOf, hasGrown, fedCommand, fed}
 use Rattle.purse_spec.proofs.Performed.{leaves-nothing, by-limit}
 use Rattle.purse_spec.proofs.Runs.{startup-runs, command-on}
-use Rattle.purse_spec.proofs.Names.{ins94, begins-not, begins-named}
+use Rattle.purse_spec.proofs.Names.{named-bytes, bytes-named, begins, begins-not}
 use Rattle.purse_spec.proofs.Performing.{cut-keeps, performed-done, performed-cut}
 use Rattle.purse_spec.proofs.Responses.{last-word}
 
@@ -149,13 +148,14 @@ module _ (m : List ℕ) (s : Session) (b : Ledger) (h : Agrees m s b) (bytes ran
 
     -- what it leaves, with the ledger fed its status word
     finished-booked : H (fedCommand bytes w b)
-    unfolding fedCommand isInitialize isComplete ins94 of94
+    unfolding fedCommand isInitialize isComplete
     finished-booked =
         pick-holds H (isInitialize bytes && eqb w 0x9000) _ _
-        (λ t. let a = and-both (isInitialize bytes) (eqb w 0x9000) t in initialize-booked (begins-named bytes 0x44 (a .0)) (eqb-true w 0x9000 (a .1)))
+        (λ t. let a = and-both (isInitialize bytes) (eqb w 0x9000) t in initialize-booked (bytes-named bytes (IsSigned InitializeTransaction) (begins bytes 0x44 (a .0))) (eqb-true w 0x9000 (a .1)))
         (λ t. pick-holds H (isComplete bytes && eqb w 0x9000) _ _
-        (λ u. let a = and-both (isComplete bytes) (eqb w 0x9000) u in complete-booked (begins-named bytes 0x46 (a .0)) (eqb-true w 0x9000 (a .1)))
-        (λ u. other-booked (begins-not bytes (IsSigned InitializeTransaction) w t (omega arith)) (begins-not bytes (IsSigned CompleteTransaction) w u (omega arith))))
+        (λ u. let a = and-both (isComplete bytes) (eqb w 0x9000) u in complete-booked (bytes-named bytes (IsSigned CompleteTransaction) (begins bytes 0x46 (a .0))) (eqb-true w 0x9000 (a .1)))
+        (λ u. other-booked (λ n z. begins-not bytes 0x44 w t (named-bytes bytes (IsSigned InitializeTransaction) n) z)
+        (λ n z. begins-not bytes 0x46 w u (named-bytes bytes (IsSigned CompleteTransaction) n) z)))
 
 -- ---- one call
 

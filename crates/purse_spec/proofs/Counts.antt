@@ -94,5 +94,5 @@ shape-stored m f (one-plan p b h) =
     }
 
 -- of every call
-pub stores-law : (x : Call) (st : Situation) → Typed st → OfBytes x → Stored (st .memory) (λ L. run (limited L x) st)
+pub stores-law : (x : Call) (st : Situation) → (typed : Typed st) → (given : OfBytes x) → Stored (st .memory) (λ L. run (limited L x) st)
 stores-law x st t f = shape-stored (st .memory) (λ L. run (limited L x) st) (shape x st t f)

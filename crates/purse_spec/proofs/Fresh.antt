@@ -92,7 +92,7 @@ module _ (d : List ℕ) (g : InRange d) where
 -- ---- the law
 
 -- data in range, on any memory of 4,096 bytes and at limit 65,535 or above: done, and memory reads as the fresh card
-pub installs : (st : Situation) (d : List ℕ) (limit : ℕ) → AreBytes d → (g : InRange d) → length (st .memory) ≡ 4096 → 65535 ≤ limit
+pub installs : (st : Situation) (d : List ℕ) (limit : ℕ) → (given : AreBytes d) → (g : InRange d) → (long : length (st .memory) ≡ 4096) → (uncut : 65535 ≤ limit)
     → (run (install d limit) st .answer ≡ 0) × (c : Card) × (readCard (run (install d limit) st .memory) ≡ some c) × Fresh g c
 unfolding run
 installs st d limit f g e k =

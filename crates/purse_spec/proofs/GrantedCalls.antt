@@ -19,8 +19,9 @@ pub record GrantedCall (r : Run) : Type 0 where
   pub answer : r .answer ≡ 0
   pub status : 256 * byteAt (r .response) (r .length - 2) + byteAt (r .response) (r .length - 1) ≡ 0x9000
 
-pub granted-on-memory : (st : Situation) (c : Card) (bytes random area : List ℕ) (limit : ℕ) → Typed st → OfBytes (send bytes random area limit)
-    → readCard (st .memory) ≡ some c → 32 ≤ length area → length random ≡ 8 → 65535 ≤ limit → respond c (st .session) bytes random .status ≡ 0x9000
+pub granted-on-memory : (st : Situation) (c : Card) (bytes random area : List ℕ) (limit : ℕ) → (typed : Typed st) → (given : OfBytes (send bytes random area limit))
+    → (reads : readCard (st .memory) ≡ some c) → (room : 32 ≤ length area) → (drawn : length random ≡ 8) → (uncut : 65535 ≤ limit)
+    → (granted : respond c (st .session) bytes random .status ≡ 0x9000)
     → GrantedCall (run (send bytes random area limit) st)
 granted-on-memory st c bytes random area limit t f e a b k w =
     let m = demand-two st c bytes random area limit t f e a b k in

@@ -37,11 +37,13 @@ use Rattle.purse_spec.specs.Commands.{leastArea, plans, outcomePlan, out
 use Rattle.purse_spec.specs.History.{send, Situation, run}
 use Rattle.purse_spec.specs.Ledger.{statusWord}
 use Rattle.purse_spec.proofs.Rows.{EachProper, first-proper, others-proper, plans-cut}
-use Rattle.purse_spec.proofs.Names.{verify-named}
+use Rattle.purse_spec.proofs.Names.{bytes-named}
 use Rattle.purse_spec.proofs.Performing.{Fewer, performed-done}
 use Rattle.purse_spec.proofs.Promised.{Typed, sound-of}
 use Rattle.purse_spec.proofs.Responses.{performed-responds}
 use Rattle.purse_spec.proofs.Performed.{Follows, performed-follows}
+use Rattle.apdu.specs.declared.instructions.Plain.the-variants.{VerifyPin}
+use Rattle.apdu.specs.declared.instructions.Instruction.the-variants.{IsPlain}
 
 -- behind a run on the card c the try is spent: memory reads as c with one try fewer, or the run is finished and its PIN was right
 pub data Spent (c : Card) (r : Run) : Type 0 where
@@ -182,8 +184,9 @@ pick-pair m false x f g h = h refl
 
 -- two commands of one length that agree in their first five bytes, 94 20 .., on the same memory and in the same session, with the same
 -- random bytes, response area and limit
-pub no-free-guess : (st : Situation) (a b random area : List ℕ) (limit : ℕ) → Typed st → AreBytes a → AreBytes b → AreBytes random
-    → byteAt a 0 ≡ 0x94 → byteAt a 1 ≡ 0x20 → length a ≡ length b → ((k : ℕ) → k < 5 → byteAt a k ≡ byteAt b k)
+pub no-free-guess : (st : Situation) (a b random area : List ℕ) (limit : ℕ) → (typed : Typed st) → (bytes-a : AreBytes a) → (bytes-b : AreBytes b)
+    → (drawn : AreBytes random) → (cla : byteAt a 0 ≡ 0x94) → (ins : byteAt a 1 ≡ 0x20) → (long : length a ≡ length b)
+    → (header : (k : ℕ) → k < 5 → byteAt a k ≡ byteAt b k)
     → Guess (st .memory) (run (send a random area limit) st) (run (send b random area limit) st)
 unfolding run command onCard
 no-free-guess st a b random area limit t f g h x y n z =
@@ -203,4 +206,4 @@ no-free-guess st a b random area limit t f g h x y n z =
         in
         pick-pair (st .memory) (awaits (st .memory)) _ _ _
         (λ r. guessed (st .memory) c (st .session) a b random area limit q (i a f) (i b g) v
-        (pin-pair c (st .session) (Tried c (st .session)) (λ u w. alike refl) (λ u w k. judges u w k refl refl) a b random (verify-named a x y) n z))
+        (pin-pair c (st .session) (Tried c (st .session)) (λ u w. alike refl) (λ u w k. judges u w k refl refl) a b random (bytes-named a (IsPlain VerifyPin) (x, y)) n z))

@@ -569,5 +569,5 @@ pub record Shapes (first : Situation) : Type 0 where
   pub complete : CutIn 0x94 0x46 first
   pub verify : CutIn 0x94 0x20 first
 
-pub histories-exist : (first : Situation) → Typed first → length (first .memory) ≡ 4096 → Shapes first
+pub histories-exist : (first : Situation) → (typed : Typed first) → (long : length (first .memory) ≡ 4096) → Shapes first
 histories-exist first t e = record { twice = two-installations first t e .1; complete = cut-complete first t e; verify = cut-verify first t e }

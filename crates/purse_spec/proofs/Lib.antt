@@ -3,9 +3,9 @@ pub mod Runs
 pub mod Installing
 pub mod Fresh
 pub mod Starting
+pub mod Names
 pub mod Accounts
 pub mod Rows
-pub mod Names
 pub mod Performing
 pub mod Promised
 pub mod EveryCall

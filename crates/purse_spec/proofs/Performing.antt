@@ -31,7 +31,7 @@ use Rattle.commands_spec.proofs.Cuts.{one-change, two-changes}
 use Rattle.commands_spec.proofs.Sizes.{Sound}
 use Rattle.commands_spec.proofs.Proper.{each-proper}
 use Rattle.purse_spec.specs.Commands.{outcomePlan}
-use Rattle.purse_spec.proofs.Names.{ins94, named-bytes, verify-named}
+use Rattle.purse_spec.proofs.Names.{named-bytes, bytes-named}
 use Rattle.purse_spec.proofs.Rows.{plans-done, plans-cut, plans-few, plans-bytes}
 
 -- the same card with one try fewer
@@ -95,16 +95,16 @@ module _ (m : List ℕ) (c : Card) (s : Session) (bytes random : List ℕ) (e : 
 
   -- after fewer than all of its changes
   short : (n : ℕ) → n < length X → CutCard c bytes (after (take n X) c)
-  unfolding after ins94
+  unfolding after
   short zero h = before refl
   short (suc n) h =
       elim (ℕ-discrete (O .status) 0x9000) [
         | yes f ↦ elim (ℕ-discrete (byteAt bytes 0) 0x94) [
           | yes a ↦ elim (ℕ-discrete (byteAt bytes 1) 0x20) [
-            | yes b ↦ fewer a b (between (verify-named bytes a b) f n h)
-            | no b ↦ absurd (single (λ v z. b (named-bytes bytes _ v (omega arith) .1)) n h)
+            | yes b ↦ fewer a b (between (bytes-named bytes (IsPlain VerifyPin) (a, b)) f n h)
+            | no b ↦ absurd (single (λ v z. b (named-bytes bytes (IsPlain VerifyPin) v .1)) n h)
           ]
-          | no a ↦ absurd (single (λ v z. a (named-bytes bytes _ v (omega arith) .0)) n h)
+          | no a ↦ absurd (single (λ v z. a (named-bytes bytes (IsPlain VerifyPin) v .0)) n h)
         ]
         | no f ↦ absurd (single (λ v z. f z) n h)
       ]

@@ -39,8 +39,8 @@ unfolding run
 startup-keeps-reading limit st = ap readCard (startup-keeps (st .memory) limit)
 
 -- any call on readable memory, finished or cut, leaves it readable, a cut installation apart
-pub readable-stays : (x : Call) (st : Situation) → Typed st → OfBytes x → readable (st .memory) ≡ true → (isInstall x ≡ true → run x st .answer ≡ 7 → ⊥)
-    → readable (run x st .memory) ≡ true
+pub readable-stays : (x : Call) (st : Situation) → (typed : Typed st) → (given : OfBytes x) → (before : readable (st .memory) ≡ true)
+    → (no-cut-installation : isInstall x ≡ true → run x st .answer ≡ 7 → ⊥) → readable (run x st .memory) ≡ true
 unfolding run OfBytes isInstall
 readable-stays (install d limit) st t f q n = installation-readable (st .memory) d limit f q (n refl)
 readable-stays (start limit) st t f q n = rw (startup-keeps (st .memory) limit) q

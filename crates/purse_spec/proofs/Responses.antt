@@ -67,8 +67,9 @@ performed-responds m c s bytes random area limit a i =
     })
 
 -- every finished command
-pub responds : (st : Situation) (c : Card) (bytes random area : List ℕ) (limit : ℕ) → Typed st → OfBytes (send bytes random area limit) → readCard (st .memory) ≡ some c
-    → run (send bytes random area limit) st .answer ≡ 0 → Responds (respond c (st .session) bytes random) area (run (send bytes random area limit) st)
+pub responds : (st : Situation) (c : Card) (bytes random area : List ℕ) (limit : ℕ) → (typed : Typed st) → (given : OfBytes (send bytes random area limit))
+    → (reads : readCard (st .memory) ≡ some c) → (finished : run (send bytes random area limit) st .answer ≡ 0)
+    → Responds (respond c (st .session) bytes random) area (run (send bytes random area limit) st)
 unfolding run OfBytes refusal
 responds st c bytes random area limit t f e =
     command-on (st .memory) (λ (r : ℕ → Run). r limit .answer ≡ 0 → Responds (respond c (st .session) bytes random) area (r limit)) (st .session) bytes random area c e
