@@ -5,7 +5,8 @@ use Prim.Native.Nat.{ℕ}
 use Rattle.octets.specs.Choice.{refuse}
 use Rattle.apdu.specs.declared.parsing.Apdu.{Apdu}
 use Rattle.apdu.specs.declared.instructions.Plain.{Plain}
-use Rattle.apdu.specs.declared.instructions.Plain.the-variants.{Select, InitializeUpdate, ExternalAuthenticate, VerifyPin, GetData, ReadRecord}
+use Rattle.apdu.specs.declared.instructions.Plain.the-variants.{Select, InitializeUpdate, ExternalAuthenticate}
+use Rattle.apdu.specs.declared.instructions.Plain.the-variants.{VerifyPin, GetData, ReadRecord}
 use Rattle.apdu.specs.declared.instructions.Signed.{Signed}
 use Rattle.apdu.specs.Parameters.{plainParameters, signedParameters, hasRecord}
 use Rattle.apdu.specs.Lengths.{plainLength, signedLength}

@@ -3,9 +3,11 @@ use mathlib.Core.Bool.{Bool, true, _&&_, _||_}
 use Prim.Native.Nat.{ℕ}
 use lib.Dec.{leb, eqb}
 use Rattle.apdu.specs.declared.instructions.Plain.{Plain}
-use Rattle.apdu.specs.declared.instructions.Plain.the-variants.{Select, InitializeUpdate, ExternalAuthenticate, VerifyPin, GetData, ReadRecord}
+use Rattle.apdu.specs.declared.instructions.Plain.the-variants.{Select, InitializeUpdate, ExternalAuthenticate}
+use Rattle.apdu.specs.declared.instructions.Plain.the-variants.{VerifyPin, GetData, ReadRecord}
 use Rattle.apdu.specs.declared.instructions.Signed.{Signed}
-use Rattle.apdu.specs.declared.instructions.Signed.the-variants.{PutKey, PinChange, StoreData, InitializeTransaction, CompleteTransaction, PutData}
+use Rattle.apdu.specs.declared.instructions.Signed.the-variants.{PutKey, PinChange, StoreData}
+use Rattle.apdu.specs.declared.instructions.Signed.the-variants.{InitializeTransaction, CompleteTransaction, PutData}
 
 -- P1 and P2 are x and y
 unfoldable pub are : ℕ → ℕ → ℕ → ℕ → Bool

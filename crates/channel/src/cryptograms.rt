@@ -2,17 +2,19 @@
 ghost use mathlib.Core.Path.{_≡_};
 ghost use mathlib.Core.List.{_++_};
 ghost use Rattle.channel.specs.Channel.{cardCryptogram, hostCryptogram};
-use octets::paste;
+use octets::append8;
+use octets::empty;
+use octets::part16;
 use tdes::signature;
 
 // One challenge after the other.
 fn both(first: [u8; 8], second: [u8; 8]) -> [u8; 16]
     ensures { λ r. ⌜ r ≡ first ++ second ⌝ }
 {
-    let mut r = [0u8; 16];
-    paste(&mut r, 0, &first);
-    paste(&mut r, 8, &second);
-    r
+    let front = append8(empty(), first);
+    let whole = append8(front, second);
+    let bytes = whole.bytes;
+    part16(&bytes, 0)
 }
 
 // What the card shows: the host's challenge first.

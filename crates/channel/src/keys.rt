@@ -1,24 +1,22 @@
 // Session keys.
 ghost use mathlib.Core.Path.{_≡_};
 ghost use Rattle.channel.specs.Channel.{derivation, sessionKey};
+use octets::append4;
+use octets::empty;
 use octets::part4;
-use octets::paste;
+use octets::part16;
 use tdes::ecb;
 
 // What a stored key enciphers: halves of the two challenges.
 pub fn derivation(host: [u8; 8], card: [u8; 8]) -> [u8; 16]
     ensures { λ r. ⌜ r ≡ derivation host card ⌝ }
 {
-    let first = part4(&card, 4);
-    let second = part4(&host, 0);
-    let third = part4(&card, 0);
-    let fourth = part4(&host, 4);
-    let mut r = [0u8; 16];
-    paste(&mut r, 0, &first);
-    paste(&mut r, 4, &second);
-    paste(&mut r, 8, &third);
-    paste(&mut r, 12, &fourth);
-    r
+    let first = append4(empty(), part4(&card, 4));
+    let second = append4(first, part4(&host, 0));
+    let third = append4(second, part4(&card, 0));
+    let fourth = append4(third, part4(&host, 4));
+    let bytes = fourth.bytes;
+    part16(&bytes, 0)
 }
 
 // The session key of a stored key and the two challenges.

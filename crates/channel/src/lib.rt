@@ -12,5 +12,6 @@ pub use macs::cmac;
 pub use macs::rmac;
 pub use transport::bank_received;
 pub use transport::bank_sent;
+pub use transport::receive;
 pub use transport::received8;
 pub use transport::received48;

@@ -23,12 +23,19 @@ pub fn bank_received(dek: [u8; 16], value: [u8; 16]) -> [u8; 16]
     text
 }
 
+// What was sent under a key, in place.
+pub fn receive(key: [u8; 16], text: &mut [u8])
+    ensures { λ _. ⌜ now (text .exit) ≡ received key (now (text .entry)) ⌝ }
+{
+    ecb(key, true, text);
+}
+
 // A PIN block that was sent under a key.
 pub fn received8(key: [u8; 16], value: [u8; 8]) -> [u8; 8]
     ensures { λ r. ⌜ r ≡ received key value ⌝ }
 {
     let mut text = value;
-    ecb(key, true, &mut text);
+    receive(key, &mut text);
     text
 }
 
@@ -37,6 +44,6 @@ pub fn received48(key: [u8; 16], value: [u8; 48]) -> [u8; 48]
     ensures { λ r. ⌜ r ≡ received key value ⌝ }
 {
     let mut text = value;
-    ecb(key, true, &mut text);
+    receive(key, &mut text);
     text
 }

@@ -24,7 +24,8 @@ pub extern "C" fn cipher_cbc(key: &[u8], start: &[u8], text: &mut [u8]) -> usize
 // has fewer than 8.
 #[no_mangle]
 pub extern "C" fn cipher_signature(key: &[u8], start: &[u8], text: &[u8], out: &mut [u8]) -> usize
-    ensures { λ r. ⌜ called r (now (out .exit)) ≡ signatureCall (now (key .entry)) (now (start .entry)) (now (text .entry)) (now (out .entry)) ⌝ }
+    ensures { λ r. ⌜ called r (now (out .exit))
+        ≡ signatureCall (now (key .entry)) (now (start .entry)) (now (text .entry)) (now (out .entry)) ⌝ }
 {
     if key.len() != 16 {
         return 0;

@@ -16,7 +16,8 @@ use Rattle.des_spec.proofs.Ranges.{bits-permute, bits-xor, bits-bitsOf,
 use Rattle.des_spec.proofs.Binary.{bits-of-bytes, bytes-of-bits}
 use Rattle.des_spec.proofs.Permutations.{initial-undoes-inverse, inverse-undoes-initial}
 use Rattle.des_spec.proofs.Sums.{xor-twice, xorBytes-twice}
-use Rattle.des_spec.proofs.Walk.{Undoes, ecbBy, cbcEncipherBy, cbcDecipherBy, ecbMode, cbcMode, ecb-walk, cbc-walk, ecbText-walk, cbcText-walk, zeros, walk, walk-undone, walkText, walkText-undone}
+use Rattle.des_spec.specs.Walk.{ecbBy, cbcEncipherBy, cbcDecipherBy, ecbMode, cbcMode, walk, walkText}
+use Rattle.des_spec.proofs.Walk.{Undoes, ecb-walk, cbc-walk, ecbText-walk, cbcText-walk, zeros, walk-undone, walkText-undone}
 use Rattle.des_spec.proofs.Texts.{ecb-sound, cbc-sound, bytes-zeros}
 
 -- ---- the rounds

@@ -16,7 +16,8 @@ use Rattle.des_spec.specs.Modes.{tripleDes, ecb, cbc, ecbText, cbcText, 
 use Rattle.des_spec.proofs.Lengths.{length-permute}
 use Rattle.des_spec.proofs.Elements.{getD-permute, getD-bitsOf}
 use Rattle.des_spec.proofs.Permutations.{and-left, and-right, each-at}
-use Rattle.des_spec.proofs.Walk.{Mode, walk, ecbBy, cbcEncipherBy, cbcDecipherBy, ecbMode, cbcMode, ecb-walk, cbc-walk, zeros}
+use Rattle.des_spec.specs.Walk.{Mode, walk, ecbBy, cbcEncipherBy, cbcDecipherBy, ecbMode, cbcMode}
+use Rattle.des_spec.proofs.Walk.{ecb-walk, cbc-walk, zeros}
 
 -- two keys of n bytes that agree but for the parity bits
 pub record ButParity (n : ℕ) (a b : List ℕ) : Type 0 where

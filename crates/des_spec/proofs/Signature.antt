@@ -10,7 +10,8 @@ use Rattle.des_spec.specs.Des.{encipher}
 use Rattle.des_spec.specs.Modes.{tripleDes, cbc, blocks, cbcText, padded, lastBlock, signature}
 use Rattle.des_spec.proofs.Rows.{below-drop}
 use Rattle.des_spec.proofs.Lengths.{length-tripleDes}
-use Rattle.des_spec.proofs.Walk.{Mode, walk, after, cbcEncipherBy, cbcMode, cbc-walk}
+use Rattle.des_spec.specs.Walk.{Mode, walk, after, cbcEncipherBy, cbcMode}
+use Rattle.des_spec.proofs.Walk.{cbc-walk}
 use Rattle.des_spec.proofs.Texts.{length-cbcText, bytes-cbcText}
 use Rattle.des_spec.proofs.Padding.{length-padded, blocks-padded, blocks-drop, blocks-short, rest-padded, take-padded, drop-padded, bytes-padded}
 

@@ -12,7 +12,8 @@ use Rattle.des_spec.specs.Modes.{tripleDes, ecb, cbc, ecbText, cbcText}
 use Rattle.des_spec.proofs.Rows.{below-replicate}
 use Rattle.des_spec.proofs.Lengths.{length-xorBytes, length-tripleDes}
 use Rattle.des_spec.proofs.Ranges.{bytes-xorBytes, bytes-tripleDes}
-use Rattle.des_spec.proofs.Walk.{Sound, ecbBy, cbcEncipherBy, cbcDecipherBy, ecbMode, cbcMode, ecb-walk, cbc-walk, ecbText-walk, cbcText-walk, zeros, length-walk, bytes-walk, length-walkText, bytes-walkText}
+use Rattle.des_spec.specs.Walk.{ecbBy, cbcEncipherBy, cbcDecipherBy, ecbMode, cbcMode}
+use Rattle.des_spec.proofs.Walk.{Sound, ecb-walk, cbc-walk, ecbText-walk, cbcText-walk, zeros, length-walk, bytes-walk, length-walkText, bytes-walkText}
 
 -- a cipher that makes a block of bytes
 pub record Cipher (f : List ℕ → List ℕ) : Type 0 where

@@ -1,5 +1,4 @@
--- ECB and CBC in both directions are one walk over the blocks of a text, and what holds of any such walk is shown once, over the number of blocks.
--- Assumes nothing.
+-- What holds of any walk over the blocks of a text is shown once, over the number of blocks; ECB and CBC are such walks. Assumes nothing.
 use Prim.Native.Nat.{ℕ, zero, suc, _+_, _*_, _/_, _≤_}
 use mathlib.Core.Path.{_≡_, refl, sym, ap, _∙_}
 use mathlib.Core.Bool.{Bool, true, false}
@@ -10,43 +9,8 @@ use lib.Seq.{take-at, drop-at, take-add, length-take-le}
 use Rattle.des_spec.specs.Bits.{Bytes, xorBytes}
 use Rattle.des_spec.specs.Des.{encipher, decipher}
 use Rattle.des_spec.specs.Modes.{tripleDes, ecb, cbcEncipher, cbcDecipher, cbc, blocks, rest, ecbText, cbcText}
+use Rattle.des_spec.specs.Walk.{Mode, walk, walkText, after, ecbBy, cbcEncipherBy, cbcDecipherBy, ecbMode, cbcMode}
 use Rattle.des_spec.proofs.Rows.{below-append, below-drop, below-take}
-
--- what a block becomes after a value, and the value that the next block comes after
-pub record Mode : Type 0 where
-  pub put : List ℕ → List ℕ → List ℕ
-  pub next : List ℕ → List ℕ → List ℕ
-
--- n blocks of a text, one after the other
-unfoldable pub walk : Mode → ℕ → List ℕ → List ℕ → List ℕ
-walk m zero value text = []
-walk m (suc n) value text = m .put value (take 8 text) ++ walk m n (m .next value (take 8 text)) (drop 8 text)
-
--- the whole blocks of a text; the bytes after them stay
-unfoldable pub walkText : Mode → List ℕ → List ℕ → List ℕ
-walkText m value text = walk m (blocks text) value text ++ rest text
-
--- the value that n blocks leave
-unfoldable pub after : Mode → ℕ → List ℕ → List ℕ → List ℕ
-after m zero value text = value
-after m (suc n) value text = after m n (m .next value (take 8 text)) (drop 8 text)
-
--- ---- the modes, of any cipher f of a block, and of triple DES under a key
-unfoldable pub ecbBy : (List ℕ → List ℕ) → Mode
-ecbBy f = record { put = λ value block. f block; next = λ value block. value }
-
-unfoldable pub cbcEncipherBy : (List ℕ → List ℕ) → Mode
-cbcEncipherBy f = record { put = λ value block. f (xorBytes block value); next = λ value block. f (xorBytes block value) }
-
-unfoldable pub cbcDecipherBy : (List ℕ → List ℕ) → Mode
-cbcDecipherBy f = record { put = λ value block. xorBytes (f block) value; next = λ value block. block }
-
-unfoldable pub ecbMode : Bool → List ℕ → Mode
-ecbMode direction key = ecbBy (tripleDes direction key)
-
-unfoldable pub cbcMode : Bool → List ℕ → Mode
-cbcMode false key = cbcEncipherBy (tripleDes encipher key)
-cbcMode true key = cbcDecipherBy (tripleDes decipher key)
 
 -- ECB and CBC are such walks
 pub ecb-walk : (n : ℕ) (d : Bool) (key value text : List ℕ) → ecb n d key text ≡ walk (ecbMode d key) n value text

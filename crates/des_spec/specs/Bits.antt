@@ -1,4 +1,5 @@
--- Rows of bits and of bytes, as FIPS 46-3 writes blocks and keys: the leftmost bit comes first, and a byte is its eight bits, the most significant first.
+-- Rows of bits and of bytes, as FIPS 46-3 writes blocks and keys: the leftmost bit comes first, and a byte is its eight bits, the most
+-- significant first.
 -- A bit is 0 or 1, a byte is 0 to 255. Assumes nothing.
 use Prim.Native.Nat.{ℕ, zero, suc, _+_, _*_, _/_, _%_, _^_, _<_, _≤_}
 use mathlib.Core.List.{List, [], _∷_, _++_, map, zipWith}

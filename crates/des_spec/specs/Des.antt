@@ -1,4 +1,5 @@
--- The data encryption standard of FIPS 46-3: the cipher function, the key schedule, sixteen rounds, and a block of 8 bytes under a key of 8 bytes.
+-- The data encryption standard of FIPS 46-3: the cipher function, the key schedule, sixteen rounds, and a block of 8 bytes under a key of
+-- 8 bytes.
 -- Assumes nothing.
 use Prim.Native.Nat.{ℕ, _-_}
 use mathlib.Core.Bool.{Bool, true, false}

@@ -2,3 +2,4 @@ pub mod Bits
 pub mod Tables
 pub mod Des
 pub mod Modes
+pub mod Walk

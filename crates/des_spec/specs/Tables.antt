@@ -1,4 +1,5 @@
--- The tables of FIPS 46-3, as printed there. An entry of a permutation says which bit of the input, counted from 1, stands at that place of the output.
+-- The tables of FIPS 46-3, as printed there. An entry of a permutation says which bit of the input, counted from 1, stands at that place
+-- of the output.
 -- Assumes nothing.
 use Prim.Native.Nat.{ℕ}
 use mathlib.Core.List.{List, [], _∷_}

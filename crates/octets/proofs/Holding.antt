@@ -8,11 +8,11 @@ use native.Mathlib.Nat.{lt-of-not-le}
 use borrow.Author.Tests.{le-leb, lt-leb}
 use lib.Dec.{T, leb, leb→le}
 use lib.ListN.{length, take, drop, length-append, length-replicate}
-use lib.Seq.{take-all, take-length, take-append-seam, drop-append-add, length-take-le}
+use lib.Seq.{take-at, take-all, take-length, take-append-seam, drop-append-add, length-take-le}
 use Rattle.octets.specs.declared.buffer.Buffer.{Buffer}
-use Rattle.octets.specs.Bytes.{zeros, paste}
+use Rattle.octets.specs.Bytes.{zeros, field, paste}
 use Rattle.octets.specs.Buffers.{capacity, content, holding, appended}
-use Rattle.octets.proofs.Parts.{drop-zeros}
+use Rattle.octets.proofs.Parts.{field-part, drop-zeros}
 use Rattle.octets.proofs.Pasting.{paste-fits}
 
 zeros-pasted : (x p : List ℕ) (k : ℕ) → length p ≤ k → paste (x ++ zeros k) (length x) p ≡ x ++ p ++ zeros (k - length p)
@@ -60,3 +60,12 @@ step {q} {b} {x} {n} p m e h l t =
       is = e ∙ ap (λ (a : Buffer). appended a p) (h .is) ∙ appended-holding x p (omega arith);
       size = length-append x p ∙ omega arith;
     }
+
+-- what it holds is the front of its bytes
+pub held : {b : Buffer} {x : List ℕ} {n : ℕ} → Holds b x n → field (b .bytes) 0 n ≡ x
+held {b} {x} {n} h =
+    let k : length x ≡ n = h .size in
+    let z = zeros (capacity - length x) in
+    ap (λ (q : Buffer). field (q .bytes) 0 n) (h .is)
+    ∙ field-part (x ++ z) 0 n (rw length-append (omega arith))
+    ∙ take-at x z n k

@@ -1,6 +1,7 @@
 // What ends what: each transition gives the session anew.
 ghost use mathlib.Core.Path.{_≡_};
-ghost use Rattle.session.specs.Transitions.{noChannel, noOffer, unselected, ended, closed, reselected, flagged, offered, opened, chained, answered};
+ghost use Rattle.session.specs.Transitions.{noChannel, noOffer, unselected};
+ghost use Rattle.session.specs.Transitions.{ended, closed, reselected, flagged, offered, opened, chained, answered};
 use crate::Channel;
 use crate::Level;
 use crate::Offer;

@@ -1,5 +1,7 @@
-// A block of triple DES. The round keys of a key are the outer ones, of its first half, and the inner ones, of its second half for the other direction.
+// A block of triple DES. The round keys of a key are the outer ones, of its first half, and the inner ones, of its second half for the
+// other direction.
 use super::blocks;
+use octets::part8;
 ghost use mathlib.Core.Path.{_≡_};
 ghost use mathlib.Core.Bool.{not};
 ghost use lib.ListN.{take, drop};
@@ -11,7 +13,7 @@ ghost use Rattle.des_spec.specs.Modes.{tripleDes};
 pub fn outer_keys(key: [u8; 16], decipher: bool) -> [[u8; 48]; 16]
     ensures { λ r. ⌜ r ≡ roundKeys decipher (take 8 key) ⌝ }
 {
-    let half = blocks::first_block(&key);
+    let half = part8(&key, 0);
     des::round_keys(half, decipher)
 }
 
@@ -19,7 +21,7 @@ pub fn outer_keys(key: [u8; 16], decipher: bool) -> [[u8; 48]; 16]
 pub fn inner_keys(key: [u8; 16], decipher: bool) -> [[u8; 48]; 16]
     ensures { λ r. ⌜ r ≡ roundKeys (not decipher) (drop 8 key) ⌝ }
 {
-    let half = blocks::first_block(&key[8..]);
+    let half = part8(&key, 8);
     des::round_keys(half, !decipher)
 }
 

@@ -1,3 +1,4 @@
+-- `main`: each round reads a line and answers it. Assumes nothing.
 use mathlib.Core.Path.{_≡_}
 use lib.ListN.{length}
 use borrow.Author.Needs.{needs}

@@ -1,3 +1,4 @@
+-- `push_all`: the count stays within the bytes. Assumes nothing.
 use mathlib.Core.Path.{_≡_}
 use lib.ListN.{length}
 use Prim.Native.Nat.{_≤_, _-_}

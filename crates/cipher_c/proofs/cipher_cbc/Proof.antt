@@ -1,3 +1,4 @@
+-- `cipher_cbc`: a key or a start value of another length is refused; else the text is CBC's. Assumes nothing.
 use Rattle.cipher_c.proofs.Accepted.{cbc-called}
 use Rattle.cipher_c.specs.Calls.{cbcCall}
 use Rattle.octets.proofs.Rules.{rules}

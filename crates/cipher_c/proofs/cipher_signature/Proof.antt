@@ -1,3 +1,4 @@
+-- `cipher_signature`: a key, a start value or an area of another length is refused; else the signature is pasted. Assumes nothing.
 use Rattle.cipher_c.proofs.Accepted.{signature-called}
 use Rattle.cipher_c.specs.Calls.{signatureCall}
 use Rattle.octets.proofs.Rules.{rules}

@@ -1,3 +1,4 @@
+-- `put`: no store where there is no room, one where there is. Assumes nothing.
 use mathlib.Core.Path.{sym, _∙_}
 use native.Mathlib.Omega.{arith}
 use borrow.Author.Needs.{needs}

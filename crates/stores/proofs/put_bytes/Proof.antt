@@ -1,85 +1,76 @@
--- The invariant: memory is as the first i bytes leave it, and so is the room.
-use Prim.Native.Nat.{_-_, _≤_}
-use mathlib.Core.Path.{_≡_, refl, sym, _∙_}
+-- `put_bytes`: past memory's end nothing changes; with room for all, the bytes lie over what was there. Assumes nothing.
+use mathlib.Core.Path.{sym, _∙_}
 use native.Mathlib.Omega.{arith}
 use borrow.Author.Needs.{needs}
-use lib.ListN.{length, take}
-use lib.Seq.{take-length}
-use Rattle.stores.specs.Stores.{writes, leaves}
-use Rattle.stores.proofs.Plans.{writes-nothing, writes-past}
-use Rattle.stores.proofs.Sequence.{turn}
+use Rattle.stores.specs.Stores.{writes}
+use Rattle.stores.proofs.Plans.{writes-past, writes-length}
+use Rattle.stores.proofs.Limits.{limit-enough}
+use Rattle.stores.proofs.Parts.{applied-writes}
 use Rattle.stores.proofs.put_bytes.Statement.{statement}
 use Rattle.stores.proofs.put_bytes.Tie as tie
 
-abbrev Inv-loop : tie.InvT-loop
-Inv-loop mem₀ at bytes room rest₀ i₀ mem rest i =
-    (i ≤ length bytes) × (length mem ≡ length mem₀) × (rest ≡ room - i) × (mem ≡ leaves (writes at (take i bytes)) room mem₀)
-
-abbrev μ-loop : tie.MeasureT-loop
-μ-loop mem₀ at bytes room rest₀ i₀ mem rest i = length bytes - i
-
-left-requires : tie.Need-left-requires Inv-loop μ-loop
+left-requires : tie.Need-left-requires
 left-requires c κs = search needs
 
-returns : tie.Need-returns Inv-loop μ-loop
+returns : tie.Need-returns
 returns c =
     let a = c .before .before .before .before .args in
     (c .left .ensures, sym (writes-past (a .at) (a .bytes .now) _ (a .mem .now) (c .before .if1 .taken)))
 
-loop-holds : tie.Need-loop-holds Inv-loop μ-loop
-loop-holds c =
-    let a = c .before .before .before .args in
-    (omega arith, refl, omega arith, sym (writes-nothing (a .at) (a .room) (a .mem .now)))
+sub-if2 : tie.Need-sub-if2
+sub-if2 c = search needs
 
-add-put : tie.Need-add-put Inv-loop μ-loop
-add-put c = omega arith
+put-each-requires : tie.Need-put-each-requires
+put-each-requires c κs = search needs
 
-shared-slice-read-put : tie.Need-shared-slice-read-put Inv-loop μ-loop
-shared-slice-read-put c = omega arith
-
-put-requires : tie.Need-put-requires Inv-loop μ-loop
-put-requires c κs = search needs
-
-add-i : tie.Need-add-i Inv-loop μ-loop
-add-i c = omega arith
-
-loop-less : tie.Need-loop-less Inv-loop μ-loop
-loop-less c = omega arith
-
-loop-again : tie.Need-loop-again Inv-loop μ-loop
-loop-again c =
-    let p = c .before .before .put in
-    let l = c .before .before .before .before .before .before .loop in
-    let a = c .before .before .before .before .before .before .before .before .before .before .args in
-    let e = turn (a .bytes .now) (l .i) _ (a .room) (l .rest) (a .at) (a .mem .now) (l .mem) (p .last .0) (omega arith) refl (l .inv .2) (l .inv .3) (p .ensures .1) in
-    let o = p .ensures .0 in
-    let k = l .inv .2 in
-    (omega arith, p .kept .0 ∙ l .inv .1, omega arith, e)
-
-same-length : tie.Need-same-length Inv-loop μ-loop
+same-length : tie.Need-same-length
 same-length c = search needs
 
-returns-2 : tie.Need-returns-2 Inv-loop μ-loop
-returns-2 c =
-    let a = c .before .before .before .before .before .args in
-    let l = c .before .loop in
-    let k : l .i ≡ length (a .bytes .now) = omega arith in
-    (l .inv .2 ∙ rw k, l .inv .3 ∙ rw (k, take-length (a .bytes .now)))
+returns-2 : tie.Need-returns-2
+returns-2 c = search needs
+
+put-each-requires-2 : tie.Need-put-each-requires-2
+put-each-requires-2 c κs = search needs
+
+same-length-2 : tie.Need-same-length-2
+same-length-2 c = search needs
+
+returns-3 : tie.Need-returns-3
+returns-3 c = search needs
+
+paste-requires : tie.Need-paste-requires
+paste-requires c κs = search needs
+
+sub-result : tie.Need-sub-result
+sub-result c = search needs
+
+same-length-3 : tie.Need-same-length-3
+same-length-3 c = search needs
+
+returns-4 : tie.Need-returns-4
+returns-4 c =
+    let a = c .before .before .before .before .before .before .before .before .before .args in
+    let b = a .bytes .now in
+    let m = a .mem .now in (
+      search needs,
+      c .before .before .paste .ensures
+          ∙ sym (limit-enough (writes (a .at) b) (a .room) m (rw writes-length (omega arith)) ∙ applied-writes b m (a .at) (omega arith)),
+    )
 
 pub put-bytes-spec : {M : Type 1} → statement M
 put-bytes-spec =
     tie.close
     (tie.spec
-    Inv-loop
-    μ-loop
     left-requires
     returns
-    loop-holds
-    add-put
-    shared-slice-read-put
-    put-requires
-    add-i
-    loop-less
-    loop-again
+    sub-if2
+    put-each-requires
     same-length
-    returns-2)
+    returns-2
+    put-each-requires-2
+    same-length-2
+    returns-3
+    paste-requires
+    sub-result
+    same-length-3
+    returns-4)

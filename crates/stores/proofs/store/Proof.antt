@@ -1,3 +1,4 @@
+-- `store`: past the end of memory nothing changes. Assumes nothing.
 use mathlib.Core.Path.{sym}
 use borrow.Author.Needs.{needs}
 use lib.Seq.{set-out}

@@ -1,3 +1,4 @@
+-- `early_status`: a rule a return, in order. Assumes nothing.
 use Rattle.apdu.specs.Early.{earlyStatus}
 use Rattle.octets.proofs.Rules.{rules}
 use Rattle.apdu.proofs.early.early_status.Statement.{statement}

@@ -1,3 +1,4 @@
+-- `is_select`: a case for each command. Assumes nothing.
 use Rattle.apdu.specs.Early.{isSelect}
 use Rattle.octets.proofs.Rules.{rules}
 use borrow.Author.Needs.{needs}

@@ -1,3 +1,4 @@
+-- `may_run`: SELECT or selected. Assumes nothing.
 use Rattle.apdu.specs.Early.{isSelect}
 use Rattle.octets.proofs.Rules.{rules}
 use borrow.Author.Needs.{needs}

@@ -1,3 +1,4 @@
+-- `plain_status`: the tests are those of the definition. Assumes nothing.
 use Rattle.apdu.specs.Early.{plainStatus}
 use borrow.Author.Needs.{needs}
 use Rattle.apdu.proofs.early.plain_status.Statement.{statement}

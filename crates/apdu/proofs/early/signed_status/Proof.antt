@@ -1,3 +1,4 @@
+-- `signed_status`: the tests are those of the definition. Assumes nothing.
 use Rattle.apdu.specs.Early.{signedStatus}
 use borrow.Author.Needs.{needs}
 use Rattle.apdu.proofs.early.signed_status.Statement.{statement}

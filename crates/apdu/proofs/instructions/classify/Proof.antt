@@ -1,3 +1,4 @@
+-- `classify`: a case for each class. Assumes nothing.
 use borrow.Author.Tests.{ne-eqb}
 use Rattle.apdu.specs.Instructions.{instruction}
 use borrow.Author.Needs.{needs}

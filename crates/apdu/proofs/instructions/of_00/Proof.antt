@@ -1,3 +1,4 @@
+-- `of_00`: a case for each instruction. Assumes nothing.
 use borrow.Author.Tests.{ne-eqb}
 use Rattle.apdu.specs.Instructions.{of00}
 use Rattle.apdu.proofs.instructions.of_00.Statement.{statement}

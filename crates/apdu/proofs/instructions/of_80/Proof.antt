@@ -1,3 +1,4 @@
+-- `of_80`: a case for each instruction. Assumes nothing.
 use borrow.Author.Tests.{ne-eqb}
 use Rattle.apdu.specs.Instructions.{of80}
 use Rattle.apdu.proofs.instructions.of_80.Statement.{statement}

@@ -1,3 +1,4 @@
+-- `of_84`: a case for each instruction. Assumes nothing.
 use borrow.Author.Tests.{ne-eqb}
 use Rattle.apdu.specs.Instructions.{of84}
 use Rattle.apdu.proofs.instructions.of_84.Statement.{statement}

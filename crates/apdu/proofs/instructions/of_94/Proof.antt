@@ -1,3 +1,4 @@
+-- `of_94`: a case for each instruction. Assumes nothing.
 use borrow.Author.Tests.{ne-eqb}
 use Rattle.apdu.specs.Instructions.{of94}
 use Rattle.apdu.proofs.instructions.of_94.Statement.{statement}

@@ -1,3 +1,4 @@
+-- `plain_length`: a case for each command. Assumes nothing.
 use Rattle.apdu.specs.Lengths.{plainLength}
 use Rattle.octets.proofs.Rules.{rules}
 use borrow.Author.Needs.{needs}

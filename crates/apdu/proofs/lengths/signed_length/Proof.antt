@@ -1,3 +1,4 @@
+-- `signed_length`: a case for each command. Assumes nothing.
 use Rattle.apdu.specs.Lengths.{signedLength}
 use Rattle.octets.proofs.Rules.{rules}
 use borrow.Author.Needs.{needs}

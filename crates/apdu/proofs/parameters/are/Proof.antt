@@ -1,3 +1,4 @@
+-- `are`: both bytes are tested. Assumes nothing.
 use Rattle.apdu.specs.Parameters.{are}
 use Rattle.octets.proofs.Rules.{rules}
 use Rattle.apdu.proofs.parameters.are.Statement.{statement}

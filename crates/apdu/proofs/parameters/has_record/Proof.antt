@@ -1,3 +1,4 @@
+-- `has_record`: a case for each command; READ RECORD's range. Assumes nothing.
 use Rattle.apdu.specs.Parameters.{hasRecord}
 use Rattle.octets.proofs.Rules.{rules}
 use borrow.Author.Needs.{needs}

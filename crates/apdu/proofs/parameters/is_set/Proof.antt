@@ -1,3 +1,4 @@
+-- `is_set`: the range of the match is the range of the test. Assumes nothing.
 use native.Mathlib.Omega.{arith}
 use borrow.Author.Tests.{le-leb}
 use Rattle.apdu.specs.Parameters.{isSet}

@@ -1,3 +1,4 @@
+-- `is_tag`: the ranges of the match are those of the test. Assumes nothing.
 use native.Mathlib.Omega.{arith}
 use borrow.Author.Tests.{le-leb, lt-leb}
 use Rattle.apdu.specs.Parameters.{isTag}

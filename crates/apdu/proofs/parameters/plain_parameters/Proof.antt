@@ -1,3 +1,4 @@
+-- `plain_parameters`: a case for each command. Assumes nothing.
 use Rattle.apdu.specs.Parameters.{plainParameters}
 use Rattle.octets.proofs.Rules.{rules}
 use borrow.Author.Needs.{needs}

@@ -1,3 +1,4 @@
+-- `signed_parameters`: a case for each command. Assumes nothing.
 use native.Mathlib.Omega.{arith}
 use borrow.Author.Tests.{eq-eqb, le-leb}
 use Rattle.apdu.specs.Parameters.{signedParameters}

@@ -1,3 +1,4 @@
+-- `parse`: a rule a return, in order. Assumes nothing.
 use native.Mathlib.Omega.{arith}
 use Rattle.apdu.specs.Parsing.{parsed}
 use Rattle.octets.proofs.Rules.{rules}

@@ -1,53 +1,47 @@
-use mathlib.Core.Path.{_≡_, refl}
-use native.Mathlib.Omega.{arith}
+-- `both`: two pieces in a buffer. Assumes nothing.
+use mathlib.Core.Path.{_≡_}
 use lib.ListN.{length}
-use Rattle.octets.specs.Bytes.{zeros}
-use Rattle.channel.proofs.Laying.{none, step, whole}
+use Rattle.channel.proofs.Laying.{both-held}
 use borrow.Author.Needs.{needs}
 use Rattle.channel.proofs.cryptograms.both.Statement.{statement}
 use Rattle.channel.proofs.cryptograms.both.Tie as tie
 
-first-size : (s : tie.Start) → length (s .args .t1) ≡ 8
+empty-requires : tie.Need-empty-requires
+empty-requires c κs = search needs
+
+append8-requires : tie.Need-append8-requires
+append8-requires c κs = search needs
+
+append8-requires-2 : tie.Need-append8-requires-2
+append8-requires-2 c κs = search needs
+
+slice-aggregate-part16 : tie.Need-slice-aggregate-part16
+slice-aggregate-part16 c = search needs
+
+part16-requires : tie.Need-part16-requires
+part16-requires c κs = search needs
+
+first-size : (s : tie.Start) → length (s .args .first) ≡ 8
 first-size s = search needs
 
-second-size : (s : tie.Start) → length (s .args .t2) ≡ 8
+second-size : (s : tie.Start) → length (s .args .second) ≡ 8
 second-size s = search needs
-
-slice-aggregate-paste : tie.Need-slice-aggregate-paste
-slice-aggregate-paste c = search needs
-
-slice-aggregate-paste-2 : tie.Need-slice-aggregate-paste-2
-slice-aggregate-paste-2 c = search needs
-
-paste-requires : tie.Need-paste-requires
-paste-requires c κs = search needs
-
-slice-aggregate-paste-3 : tie.Need-slice-aggregate-paste-3
-slice-aggregate-paste-3 c = search needs
-
-slice-aggregate-paste-4 : tie.Need-slice-aggregate-paste-4
-slice-aggregate-paste-4 c = search needs
-
-paste-requires-2 : tie.Need-paste-requires-2
-paste-requires-2 c κs = search needs
 
 returns : tie.Need-returns
 returns c =
-    let l2 = c .before in
-    let l1 = l2 .before .before .before .before in
-    let start = l1 .before .before .before in
-    let h1 = step (start .args .t1) 8 (l1 .paste .ensures) (none (zeros 16)) (first-size start) (omega arith) in
-    let h2 = step (start .args .t2) 8 (l2 .paste2 .ensures) h1 (second-size start) (omega arith) in
-    whole h2 refl
+    let b2 = c .before .before .before in
+    let b1 = b2 .before in
+    let b0 = b1 .before in
+    let s = b0 .before in
+    both-held _ _ _ _ _ _ (first-size s) (second-size s) (b0 .empty .ensures) (b1 .append8 .ensures) (b2 .append82 .ensures) (c .part16 .ensures)
 
 pub both-spec : {M : Type 1} → statement M
 both-spec =
     tie.close
     (tie.spec
-    slice-aggregate-paste
-    slice-aggregate-paste-2
-    paste-requires
-    slice-aggregate-paste-3
-    slice-aggregate-paste-4
-    paste-requires-2
+    empty-requires
+    append8-requires
+    append8-requires-2
+    slice-aggregate-part16
+    part16-requires
     returns)

@@ -1,3 +1,4 @@
+-- `card_cryptogram`: the signature of both challenges. Assumes nothing.
 use Rattle.channel.specs.Channel.{cardCryptogram}
 use borrow.Author.Needs.{needs}
 use Rattle.channel.proofs.cryptograms.card_cryptogram.Statement.{statement}

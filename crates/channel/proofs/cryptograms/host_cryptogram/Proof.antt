@@ -1,3 +1,4 @@
+-- `host_cryptogram`: the signature of both challenges. Assumes nothing.
 use Rattle.channel.specs.Channel.{hostCryptogram}
 use borrow.Author.Needs.{needs}
 use Rattle.channel.proofs.cryptograms.host_cryptogram.Statement.{statement}

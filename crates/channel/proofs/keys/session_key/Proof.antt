@@ -1,3 +1,4 @@
+-- `session_key`: ECB over the derivation. Assumes nothing.
 use Rattle.channel.specs.Channel.{sessionKey}
 use borrow.Author.Needs.{needs}
 use Rattle.channel.proofs.keys.session_key.Statement.{statement}

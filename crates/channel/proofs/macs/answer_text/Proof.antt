@@ -1,3 +1,4 @@
+-- `answer_text`: the pieces laid one after the other. Assumes nothing.
 use Prim.Native.Nat.{_≤_}
 use mathlib.Core.Path.{_≡_, refl, sym}
 use native.Mathlib.Omega.{arith}

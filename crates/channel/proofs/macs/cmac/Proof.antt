@@ -1,3 +1,4 @@
+-- `cmac`: the whole of a shorter command, else its first `n` bytes. Assumes nothing.
 use mathlib.Core.Path.{sym}
 use native.Mathlib.Omega.{arith}
 use lib.Seq.{take-all, length-take-le}

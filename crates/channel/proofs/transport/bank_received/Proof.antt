@@ -1,3 +1,4 @@
+-- `bank_received`: CBC, deciphering, from zero. Assumes nothing.
 use Rattle.channel.specs.Channel.{bankReceived}
 use borrow.Author.Needs.{needs}
 use Rattle.channel.proofs.transport.bank_received.Statement.{statement}

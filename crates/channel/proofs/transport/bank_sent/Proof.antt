@@ -1,3 +1,4 @@
+-- `bank_sent`: CBC, enciphering, from zero. Assumes nothing.
 use Rattle.channel.specs.Channel.{bankSent}
 use borrow.Author.Needs.{needs}
 use Rattle.channel.proofs.transport.bank_sent.Statement.{statement}

@@ -1,3 +1,4 @@
+-- `decode`: indexes stay within the digits and the area. Assumes nothing.
 use Rattle.io.proofs.Counting.{counts}
 use mathlib.Core.Path.{_≡_}
 use lib.ListN.{length}

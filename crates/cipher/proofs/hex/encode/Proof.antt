@@ -1,3 +1,4 @@
+-- `encode`: indexes stay within the bytes and the area. Assumes nothing.
 use Rattle.io.proofs.Counting.{counts}
 use mathlib.Core.Path.{_≡_}
 use lib.ListN.{length}

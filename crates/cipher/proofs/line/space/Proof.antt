@@ -1,3 +1,4 @@
+-- `space`: the place stays within the line. Assumes nothing.
 use lib.ListN.{length}
 use Prim.Native.Nat.{_≤_, _-_}
 use borrow.Author.Needs.{needs}

@@ -1,3 +1,4 @@
+-- `repeated`: the count of rounds falls. Assumes nothing.
 use Prim.Native.Nat.{_-_}
 use borrow.Author.Needs.{needs}
 use Rattle.cipher.proofs.test.repeated.Statement.{statement}

@@ -1,4 +1,4 @@
--- The table of `inverse` names bits of a row of 64, by one test. Assumes nothing.
+-- `inverse`: its table names bits of a row of 64, by one test. Assumes nothing.
 use mathlib.Core.Path.{refl}
 use borrow.Author.Needs.{needs}
 use Rattle.des_spec.specs.Tables.{IP⁻¹}

@@ -1,3 +1,4 @@
+-- `append`: a piece that fits lies behind the bytes in use. Assumes nothing.
 use Prim.Native.Nat.{_+_}
 use mathlib.Core.Path.{sym}
 use native.Mathlib.Omega.{arith}

@@ -1,3 +1,4 @@
+-- `append_word`: the piece is the two bytes of the number. Assumes nothing.
 use borrow.Author.Needs.{needs}
 use Rattle.octets.proofs.buffer.append_word.Statement.{statement}
 use Rattle.octets.proofs.buffer.append_word.Tie as tie

@@ -1,3 +1,4 @@
+-- `copy_front`: the bytes in use are a prefix of all, by their number. Assumes nothing.
 use mathlib.Core.Path.{sym, _∙_}
 use native.Mathlib.Omega.{arith}
 use borrow.Author.Needs.{needs}

@@ -1,3 +1,4 @@
+-- `size`: at most the capacity is in use. Assumes nothing.
 use mathlib.Core.Path.{_≡_, sym}
 use native.Mathlib.Omega.{arith}
 use borrow.Author.Needs.{needs}

@@ -1,4 +1,4 @@
--- The invariant: the bytes before i are zero.
+-- `all_zero`: the bytes before i are zero. Assumes nothing.
 use Prim.Native.Nat.{ℕ, _-_, _≤_, _<_}
 use mathlib.Core.Path.{_≡_, sym}
 use native.Mathlib.Omega.{arith}

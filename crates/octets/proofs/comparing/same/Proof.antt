@@ -1,4 +1,4 @@
--- The invariant: the bytes before i are the same.
+-- `same`: the bytes before i are the same. Assumes nothing.
 use Prim.Native.Nat.{ℕ, _-_, _≤_, _<_}
 use mathlib.Core.Path.{_≡_, sym, ap}
 use native.Mathlib.Omega.{arith}

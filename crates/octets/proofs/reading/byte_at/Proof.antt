@@ -1,3 +1,4 @@
+-- `byte_at`: past the end a byte counts as 0. Assumes nothing.
 use mathlib.Core.Path.{sym}
 use borrow.Author.Needs.{needs}
 use Rattle.octets.proofs.Parts.{byte-past}

@@ -1,3 +1,4 @@
+-- `byte_from`: past the end a byte counts as 0, also where the sum of the two would be past any index. Assumes nothing.
 use mathlib.Core.Path.{sym}
 use native.Mathlib.Omega.{arith}
 use borrow.Author.Needs.{needs}

@@ -1,4 +1,4 @@
--- The invariant: the first i bytes of `s` stand in the area from `at` on, and the rest is as it was.
+-- `paste`: the first i bytes of `s` stand in the area from `at` on, and the rest is as it was. Assumes nothing.
 use Prim.Native.Nat.{_+_, _-_, _≤_}
 use mathlib.Core.Path.{_≡_, refl, sym, _∙_}
 use native.Mathlib.Numerals.{add-one}

@@ -1,3 +1,4 @@
+-- `access`: a case for each level. Assumes nothing.
 use Rattle.session.specs.Access.{access}
 use borrow.Author.Needs.{needs}
 use Rattle.session.proofs.access.access.Statement.{statement}

@@ -1,3 +1,4 @@
+-- `access_of`: a case for each key set. Assumes nothing.
 use Rattle.session.specs.Access.{accessOf}
 use Rattle.octets.proofs.Rules.{rules}
 use borrow.Author.Needs.{needs}

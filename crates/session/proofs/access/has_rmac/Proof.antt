@@ -1,3 +1,4 @@
+-- `has_rmac`: a case for each level. Assumes nothing.
 use Rattle.session.specs.Access.{hasRmac}
 use Rattle.octets.proofs.Rules.{rules}
 use borrow.Author.Needs.{needs}

@@ -1,3 +1,4 @@
+-- `is_open`: a case for each level. Assumes nothing.
 use Rattle.session.specs.Access.{isOpen}
 use Rattle.octets.proofs.Rules.{rules}
 use borrow.Author.Needs.{needs}

@@ -1,3 +1,4 @@
+-- `amount_of`: a case for each that may be pending. Assumes nothing.
 use Rattle.session.specs.Codes.{amountOf}
 use borrow.Author.Needs.{needs}
 use Rattle.session.proofs.codes.amount_of.Statement.{statement}

@@ -1,3 +1,4 @@
+-- `level_number`: a case for each level; a set's number is small. Assumes nothing.
 use native.Mathlib.Omega.{arith}
 use Rattle.session.proofs.RoundTrip.{set-small}
 use Rattle.session.specs.Codes.{levelNumber}

@@ -1,3 +1,4 @@
+-- `pending_number`: a case for each that may be pending. Assumes nothing.
 use Rattle.session.specs.Codes.{pendingNumber}
 use borrow.Author.Needs.{needs}
 use Rattle.session.proofs.codes.pending_number.Statement.{statement}

@@ -1,3 +1,4 @@
+-- `pending_of`: a rule for each range of numbers. Assumes nothing.
 use Rattle.session.specs.Codes.{pendingOf}
 use Rattle.octets.proofs.Rules.{rules}
 use borrow.Author.Needs.{needs}

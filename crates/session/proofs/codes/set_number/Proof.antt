@@ -1,3 +1,4 @@
+-- `set_number`: a case for each key set. Assumes nothing.
 use Rattle.session.specs.Codes.{setNumber}
 use Rattle.octets.proofs.Rules.{rules}
 use borrow.Author.Needs.{needs}

@@ -1,3 +1,4 @@
+-- `set_of`: a case for each number. Assumes nothing.
 use Rattle.session.specs.Codes.{setOf}
 use Rattle.octets.proofs.Rules.{rules}
 use Rattle.session.proofs.codes.set_of.Statement.{statement}

@@ -1,3 +1,4 @@
+-- `decode`: each field is what its reader gives. Assumes nothing.
 use Rattle.session.specs.Packing.{decoded}
 use borrow.Author.Needs.{needs}
 use Rattle.session.proofs.packing.decode.Statement.{statement}

@@ -1,3 +1,4 @@
+-- `decode_channel`: each field is what its reader gives. Assumes nothing.
 use Rattle.session.specs.Packing.{decodedChannel}
 use borrow.Author.Needs.{needs}
 use Rattle.session.proofs.packing.decode_channel.Statement.{statement}

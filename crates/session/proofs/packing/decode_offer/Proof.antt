@@ -1,3 +1,4 @@
+-- `decode_offer`: each field is what its reader gives. Assumes nothing.
 use Rattle.session.specs.Packing.{decodedOffer}
 use borrow.Author.Needs.{needs}
 use Rattle.session.proofs.packing.decode_offer.Statement.{statement}

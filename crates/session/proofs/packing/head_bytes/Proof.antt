@@ -1,3 +1,4 @@
+-- `head_bytes`: each byte is what its function gives. Assumes nothing.
 use borrow.Author.Needs.{needs}
 use Rattle.session.proofs.packing.head_bytes.Statement.{statement}
 use Rattle.session.proofs.packing.head_bytes.Tie as tie

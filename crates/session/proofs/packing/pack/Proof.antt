@@ -1,3 +1,4 @@
+-- `pack`: eight pieces in a buffer. Assumes nothing.
 use mathlib.Core.Path.{_≡_, ap, _∙_}
 use lib.ListN.{length}
 use Rattle.octets.specs.declared.buffer.Buffer.{Buffer}

@@ -1,3 +1,4 @@
+-- `unpack`: the bytes are those of the session that they say, or they say none. Assumes nothing.
 use mathlib.Core.Bool.{true, false}
 use mathlib.Core.Path.{_≡_}
 use Rattle.octets.specs.Bytes.{same}

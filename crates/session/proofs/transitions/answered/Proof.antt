@@ -1,3 +1,4 @@
+-- `answered`: the fields one by one. Assumes nothing.
 use Rattle.session.specs.Transitions.{answered}
 use borrow.Author.Needs.{needs}
 use Rattle.session.proofs.transitions.answered.Statement.{statement}

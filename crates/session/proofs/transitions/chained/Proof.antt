@@ -1,3 +1,4 @@
+-- `chained`: the fields one by one. Assumes nothing.
 use Rattle.session.specs.Transitions.{chained}
 use mathlib.Core.Path.{refl}
 use Rattle.session.proofs.transitions.chained.Statement.{statement}

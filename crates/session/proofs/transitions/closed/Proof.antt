@@ -1,3 +1,4 @@
+-- `closed`: opened with the closed channel. Assumes nothing.
 use Rattle.session.specs.Transitions.{closed, opened}
 use borrow.Author.Needs.{needs}
 use Rattle.session.proofs.transitions.closed.Statement.{statement}

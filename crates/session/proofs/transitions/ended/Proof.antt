@@ -1,3 +1,4 @@
+-- `ended`: opened with the channel as it is. Assumes nothing.
 use Rattle.session.specs.Transitions.{ended, opened}
 use borrow.Author.Needs.{needs}
 use Rattle.session.proofs.transitions.ended.Statement.{statement}

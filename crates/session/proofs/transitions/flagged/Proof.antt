@@ -1,3 +1,4 @@
+-- `flagged`: ended, with the flag. Assumes nothing.
 use Rattle.session.specs.Transitions.{flagged, ended}
 use borrow.Author.Needs.{needs}
 use Rattle.session.proofs.transitions.flagged.Statement.{statement}

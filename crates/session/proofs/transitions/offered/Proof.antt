@@ -1,3 +1,4 @@
+-- `offered`: the fields one by one. Assumes nothing.
 use Rattle.session.specs.Transitions.{offered}
 use mathlib.Core.Path.{refl}
 use Rattle.session.proofs.transitions.offered.Statement.{statement}

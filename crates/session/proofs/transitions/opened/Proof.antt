@@ -1,3 +1,4 @@
+-- `opened`: the fields one by one. Assumes nothing.
 use Rattle.session.specs.Transitions.{opened}
 use borrow.Author.Needs.{needs}
 use Rattle.session.proofs.transitions.opened.Statement.{statement}

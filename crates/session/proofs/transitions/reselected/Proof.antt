@@ -1,3 +1,4 @@
+-- `reselected`: closed, with the selection. Assumes nothing.
 use Rattle.session.specs.Transitions.{reselected, closed}
 use borrow.Author.Needs.{needs}
 use Rattle.session.proofs.transitions.reselected.Statement.{statement}

@@ -1,3 +1,4 @@
+-- `unselected`: the fields one by one. Assumes nothing.
 use Rattle.session.specs.Transitions.{unselected}
 use borrow.Author.Needs.{needs}
 use Rattle.session.proofs.transitions.unselected.Statement.{statement}

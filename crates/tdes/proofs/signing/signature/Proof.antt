@@ -8,11 +8,11 @@ use lib.ListN.{length, take, drop, length-drop}
 use lib.Seq.{take-all}
 use Rattle.des_spec.specs.Bits.{xorBytes}
 use Rattle.des_spec.specs.Des.{encipher}
-use Rattle.des_spec.specs.Modes.{padded}
-use Rattle.des_spec.proofs.Walk.{cbcEncipherBy, cbcMode}
-use Rattle.des_spec.proofs.Padding.{length-padded, take-padded}
+use Rattle.des_spec.specs.Walk.{cbcEncipherBy, cbcMode}
+use Rattle.octets.proofs.Parts.{field-part}
 use Rattle.des_spec.proofs.Signature.{signed, signed-next, signed-last, signature-signed}
-use Rattle.tdes.proofs.Under.{tripleUnder, under-key}
+use Rattle.tdes.specs.Turns.{tripleUnder}
+use Rattle.tdes.proofs.Under.{under-key}
 use Rattle.tdes.proofs.signing.signature.Statement.{statement}
 use Rattle.tdes.proofs.signing.signature.Tie as tie
 
@@ -31,8 +31,8 @@ inner-keys-requires c κs = search needs
 loop-holds : tie.Need-loop-holds Inv-loop μ-loop
 loop-holds c = refl
 
-first-block-requires : tie.Need-first-block-requires Inv-loop μ-loop
-first-block-requires c κs = search needs
+part8-requires : tie.Need-part8-requires Inv-loop μ-loop
+part8-requires c κs = search needs
 
 chained-requires : tie.Need-chained-requires Inv-loop μ-loop
 chained-requires c κs = search needs
@@ -56,13 +56,13 @@ loop-again c =
     let f = tripleUnder (h .before .before .outer-keys .result) (h .before .inner-keys .result) in
     let t = h .loop .rest .now in
     let v = h .loop .value in
-    let block = c .before .before .first-block .ensures ∙ take-padded t (search needs) in
+    let block = c .before .before .part8 .ensures ∙ field-part t 0 8 (search needs) in
     let next = c .before .chained .ensures ∙ ap (λ (b : List ℕ). f (xorBytes b v)) block in
     let left : take (length t - 8) (drop 8 t) ≡ drop 8 t = take-all (length t - 8) (drop 8 t) (omega (arith, length-drop 8 t)) in
     (λ i. signed (cbcEncipherBy f) (next i) (left i)) ∙ sym (signed-next (cbcEncipherBy f) v t (search needs)) ∙ h .loop .inv
 
-first-block-requires-2 : tie.Need-first-block-requires-2 Inv-loop μ-loop
-first-block-requires-2 c κs = search needs
+padded-block-requires : tie.Need-padded-block-requires Inv-loop μ-loop
+padded-block-requires c κs = search needs
 
 chained-requires-2 : tie.Need-chained-requires-2 Inv-loop μ-loop
 chained-requires-2 c κs = search needs
@@ -79,7 +79,7 @@ returns c =
     let v = h .loop .value in
     let e : length (a .start) ≡ 8 = search needs in
     let short : length t + 1 ≤ 8 = search needs in
-    let block = c .before .first-block2 .ensures ∙ take-all 8 (padded t) (omega (arith, length-padded t)) in
+    let block = c .before .padded-block .ensures in
     c .chained2 .ensures
     ∙ ap (λ (b : List ℕ). f (xorBytes b v)) block
     ∙ sym (signed-last (cbcEncipherBy f) v t (omega arith))
@@ -96,13 +96,13 @@ signature-spec =
     outer-keys-requires
     inner-keys-requires
     loop-holds
-    first-block-requires
+    part8-requires
     chained-requires
     sub-rest
     part-rest-start
     part-rest-end
     loop-less
     loop-again
-    first-block-requires-2
+    padded-block-requires
     chained-requires-2
     returns)

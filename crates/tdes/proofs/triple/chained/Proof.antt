@@ -1,7 +1,7 @@
 -- `chained` is the composition of its parts. Assumes nothing.
 use mathlib.Core.Path.{ap, _∙_}
 use borrow.Author.Needs.{needs}
-use Rattle.tdes.proofs.Under.{tripleUnder}
+use Rattle.tdes.specs.Turns.{tripleUnder}
 use Rattle.tdes.proofs.triple.chained.Statement.{statement}
 use Rattle.tdes.proofs.triple.chained.Tie as tie
 

@@ -3,7 +3,8 @@ use Prim.Native.Nat.{ℕ}
 use mathlib.Core.Path.{ap, _∙_}
 use mathlib.Core.List.{List}
 use borrow.Author.Needs.{needs}
-use Rattle.tdes.proofs.Under.{tripleUnder, under-key}
+use Rattle.tdes.specs.Turns.{tripleUnder}
+use Rattle.tdes.proofs.Under.{under-key}
 use Rattle.tdes.proofs.triple.triple_block.Statement.{statement}
 use Rattle.tdes.proofs.triple.triple_block.Tie as tie
 
