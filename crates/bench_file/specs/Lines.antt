@@ -13,7 +13,7 @@ use Rattle.session.specs.declared.Session.{Session}
 use Rattle.session.specs.Session.{unselected}
 use Rattle.purse_spec.specs.Calls.{Run}
 use Rattle.purse_spec.specs.History.{Call, install, start, send, run}
-use Rattle.bench_file.specs.Records.{File, file}
+use Rattle.bench_file.specs.Kinds.{File, file}
 
 -- the digit of a number below 16: 0 to 9, A to F
 unfoldable pub digit : ℕ → ℕ
@@ -82,9 +82,9 @@ unfoldable pub fileLines : File → Bench → List ℕ
 fileLines f b = callLines (f .calls) b ++ pick (f .malformed) malformedLine []
 
 -- the lines of what is to come of a bench file
-unfoldable pub linesFrom : Bench → List ℕ → List ℕ
-linesFrom b s = fileLines (file s) b
+unfoldable pub benchLines : Bench → List ℕ → List ℕ
+benchLines b s = fileLines (file s) b
 
 -- the lines of a whole bench file
 unfoldable pub lines : List ℕ → List ℕ
-lines s = linesFrom begun s
+lines s = benchLines begun s

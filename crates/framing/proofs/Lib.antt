@@ -5,6 +5,7 @@ pub mod Made
 pub mod Ends
 pub mod StreamLines
 pub mod Rounds
+pub mod Draining
 pub mod Silence
 pub mod Batching
 pub mod Turning

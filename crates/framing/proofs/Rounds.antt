@@ -89,7 +89,7 @@ module _ (F : Format) where
       by false e z = settled F room (r .state) (r .rest) (not-full _ z)
 
   -- it is not, and leaves fewer bytes
-  again-shorter : (room : ℕ) (r : Reader F) → F .longest ≤ room → again F room r ≡ true → (k : ℕ) → length (r .rest) ≤ suc k → length (behind F (turns room) r .rest) ≤ k
+  pub again-shorter : (room : ℕ) (r : Reader F) → F .longest ≤ room → again F room r ≡ true → (k : ℕ) → length (r .rest) ≤ suc k → length (behind F (turns room) r .rest) ≤ k
   unfolding again behind afterTurn
   again-shorter room r l = by (r .over)
     where

@@ -1,6 +1,6 @@
 // What leads the bytes in hand.
 ghost use mathlib.Core.Path.{_≡_};
-ghost use Rattle.framing.specs.Frames.{marked, frameSize, leads};
+ghost use Rattle.framing.specs.Frames.{marked, frameSize, leads, isFrame, isMalformed};
 use octets::byte_at;
 use octets::word_at;
 
@@ -48,4 +48,26 @@ pub fn leads(s: &[u8], ok: bool) -> Front
         return Front::Awaited;
     }
     Front::Frame
+}
+
+// Whether it is a whole frame.
+pub fn is_frame(front: Front) -> bool
+    ensures { λ r. ⌜ r ≡ isFrame front ⌝ }
+{
+    match front {
+        Front::Frame => true,
+        Front::Malformed => false,
+        Front::Awaited => false,
+    }
+}
+
+// Whether no byte behind it can mend it.
+pub fn is_malformed(front: Front) -> bool
+    ensures { λ r. ⌜ r ≡ isMalformed front ⌝ }
+{
+    match front {
+        Front::Frame => false,
+        Front::Malformed => true,
+        Front::Awaited => false,
+    }
 }

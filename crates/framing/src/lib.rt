@@ -8,6 +8,8 @@ mod rest;
 pub use front::Front;
 pub use front::HEADER_SIZE;
 pub use front::frame_size;
+pub use front::is_frame;
+pub use front::is_malformed;
 pub use front::leads;
 pub use next::Next;
 pub use output::has_room;
