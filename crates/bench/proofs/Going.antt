@@ -35,8 +35,8 @@ more-goes-on = refl
 
 -- ---- the bytes in hand
 
--- where the lines are written, a turn follows exactly where one follows in `rounds`, whose lines are the file's
-pub again-in-rounds : (room : ℕ) (b : Bench) (s : List ℕ)
+-- where the lines are written, a turn follows exactly where one follows in `onPieces`, whose lines are the file's
+pub again-in-pieces : (room : ℕ) (b : Bench) (s : List ℕ)
     → turnsAgain (turn bench room b s .next) true ≡ again bench room (record { rest = s; state = b; over = false })
 unfolding turnsAgain again
-again-in-rounds room b s = refl
+again-in-pieces room b s = refl

@@ -1,4 +1,4 @@
--- What the program has in hand, turn by turn: the turns of a piece are those of `rounds`, and what is kept of it is what they leave.
+-- What the program has in hand, turn by turn: the turns of a piece are those of `onPieces`, and what is kept of it is what they leave.
 -- Assumes nothing.
 use Prim.Native.Nat.{ℕ, suc, _+_, _-_, _≤_, _<_}
 use mathlib.Core.Bool.{Bool, true, false, not, _&&_, false≢true}
@@ -19,7 +19,7 @@ use Rattle.framing.specs.Frames.{headerSize}
 use Rattle.framing.specs.Formats.{lastLine}
 use Rattle.framing.specs.Step.{Puts}
 use Rattle.framing.specs.Stream.{Reader, turns, turn, isOver, isFull, afterTurn, behind, again}
-use Rattle.framing.proofs.Rounds.{full-moves}
+use Rattle.framing.proofs.PieceLines.{full-moves}
 use Rattle.framing.proofs.Draining.{Draining, drain-start, drain-again, drain-last}
 use Rattle.framing.proofs.Turning.{turn-kept}
 use Rattle.session.specs.declared.Session.{Session}
@@ -136,7 +136,7 @@ module _ (m : List ℕ) (s : Session) (input : List ℕ) (used : ℕ) (out : Lis
 
 -- between two turns: the turns to come drain what is in hand; behind the last it is drained
 pub record Drains (m₀ : List ℕ) (s₀ : Session) (input : List ℕ) (room : ℕ) (m : List ℕ) (h : Hand) : Type 0 where
-  pub within : h .used ≤ length input
+  pub inside : h .used ≤ length input
   pub further : h .again ≡ true → Draining bench room (inHand input m₀ s₀ false) (inHand (drop (h .used) input) m (h .session) false)
   pub last : h .again ≡ false → h .done ≡ true → inHand (drop (h .used) input) m (h .session) (not (h .on)) ≡ drained room (inHand input m₀ s₀ false)
 
@@ -144,7 +144,7 @@ pub hand-start : (m₀ : List ℕ) (s₀ : Session) (input : List ℕ) (room : �
     → Drains m₀ s₀ input room m₀ (record { used = 0; again = true; on = true; done = true; session = s₀ })
 hand-start m₀ s₀ input room h =
     record {
-      within = omega arith;
+      inside = omega arith;
       further = λ e. drain-start bench room (inHand input m₀ s₀ false) h;
       last = λ e. absurd (false≢true (sym e));
     }
@@ -157,9 +157,9 @@ hand-step m₀ s₀ input room m h d t out o l r m′ out′ e =
     let k : longestLine ≤ length out = rw o l in
     let g : Draining bench (length out) start (inHand (drop (h .used) input) m (h .session) false) = rw o (d .further t) in
     record {
-      within = hand-within m (h .session) input (h .used) out r m′ out′ k (d .within) e;
-      further = λ a. rw o at (goes-further m (h .session) input (h .used) out r m′ out′ k (d .within) e start a g);
-      last = λ a w. rw o at (comes-last m (h .session) input (h .used) out r m′ out′ k (d .within) e start a w g);
+      inside = hand-within m (h .session) input (h .used) out r m′ out′ k (d .inside) e;
+      further = λ a. rw o at (goes-further m (h .session) input (h .used) out r m′ out′ k (d .inside) e start a g);
+      last = λ a w. rw o at (comes-last m (h .session) input (h .used) out r m′ out′ k (d .inside) e start a w g);
     }
 
 -- each turn but the last uses some of the n bytes in hand
@@ -172,8 +172,8 @@ pub hand-less : (m₀ : List ℕ) (s₀ : Session) (input : List ℕ) (room : �
     → pick (r .again) (suc (length input - r .used)) 0 < pick (h .again) (suc (length input - h .used)) 0
 hand-less m₀ s₀ input room m h d t out o l r m′ out′ e =
     let k : longestLine ≤ length out = rw o l in
-    falls (h .again) (r .again) (length input) (h .used) (r .used) t (hand-within m (h .session) input (h .used) out r m′ out′ k (d .within) e)
-    (hand-moves m (h .session) input (h .used) out r m′ out′ k (d .within) e)
+    falls (h .again) (r .again) (length input) (h .used) (r .used) t (hand-within m (h .session) input (h .used) out r m′ out′ k (d .inside) e)
+    (hand-moves m (h .session) input (h .used) out r m′ out′ k (d .inside) e)
 
 -- ---- what is kept
 
@@ -209,6 +209,6 @@ piece-run m s input have out h m′ l d k input′ e =
     let z : take (have - 0) input ≡ take have input = rw sub-zero in
     let g : HandDrained m s (take have input) out h m′ = rw z at d in
     record {
-      within = kept-within input input′ (h .used) (have - h .used) k e;
-      drains = λ w. rw (kept-rest input input′ (h .used) have k (g .within) l e) (g .drains w);
+      inside = kept-within input input′ (h .used) (have - h .used) k e;
+      drains = λ w. rw (kept-rest input input′ (h .used) have k (g .inside) l e) (g .drains w);
     }

@@ -33,12 +33,12 @@ pub record HandTurned (m : List ℕ) (s : Session) (input : List ℕ) (used : �
 
 -- all turns on the bytes in hand
 pub record HandDrained (m : List ℕ) (s : Session) (input out : List ℕ) (r : Hand) (m′ : List ℕ) : Type 0 where
-  pub within : r .used ≤ length input
+  pub inside : r .used ≤ length input
   pub drains : r .done ≡ true
       → inHand (drop (r .used) input) m′ (r .session) (not (r .on)) ≡ drained (length out) (inHand input m s false)
 
 -- a piece of which the first bytes are in hand, and what is kept of them
 pub record PieceRun (m : List ℕ) (s : Session) (input : List ℕ) (have : ℕ) (out : List ℕ) (r : Kept) (m′ input′ : List ℕ) : Type 0 where
-  pub within : r .have ≤ length input′
+  pub inside : r .have ≤ length input′
   pub drains : r .done ≡ true
       → inHand (take (r .have) input′) m′ (r .session) (not (r .on)) ≡ drained (length out) (inHand (take have input) m s false)

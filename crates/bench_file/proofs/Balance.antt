@@ -1,4 +1,4 @@
--- The balance law of bench files: behind every bench file that starts with a finished installation and has no cut one, memory reads as a
+-- The balance law of bench files: behind every bench file that starts with a finished installation and has no torn one, memory reads as a
 -- card whose balance is completed credits less completed debits. Assumes nothing.
 use Prim.Native.Nat.{ℕ, zero, suc}
 use mathlib.Core.Bool.{Bool, true, false, not, _&&_, false≢true}
@@ -10,7 +10,7 @@ use Rattle.octets.specs.Choice.{pick}
 use Rattle.octets.specs.Bytes.{AreBytes, zeros, byteAt, part}
 use Rattle.octets.specs.Words.{wordAt}
 use Rattle.octets.proofs.Ranges.{drop-bytes, part-bytes, zeros-bytes}
-use Rattle.framing.specs.Frames.{headerSize, dataOf, dataSize, frameSize, whole}
+use Rattle.framing.specs.Frames.{headerSize, frameData, dataSize, frameSize, whole}
 use Rattle.card.specs.Layout.{memorySize}
 use Rattle.card.specs.Reading.{readable}
 use Rattle.card.proofs.Cards.{read-readable}
@@ -25,7 +25,7 @@ use Rattle.purse_spec.proofs.Answers.{hands-unselected}
 use Rattle.purse_spec.proofs.Typed.{Typed, typed-next}
 use Rattle.purse_spec.proofs.Readable.{readable-stays}
 use Rattle.purse_spec.proofs.Balance.{Balanced, balance-law}
-use Rattle.bench_file.specs.Kinds.{areaSize, sizeOk, callOf, firstCall, ended, leading, fileIn, file}
+use Rattle.bench_file.specs.Kinds.{areaSize, sizeOk, callOf, firstCall, frameless, leading, fileIn, file}
 use Rattle.bench_file.specs.Lines.{Bench, begun, ran, moved, sessionAfter}
 use Rattle.bench_file.specs.WithStartups.{stateOf, movedAll, NoneCut, inserted, missing, withStartups, StartsInstalled}
 
@@ -33,7 +33,7 @@ use Rattle.bench_file.specs.WithStartups.{stateOf, movedAll, NoneCut, in
 
 first-bytes : (s : List ℕ) → AreBytes s → OfBytes (firstCall s)
 unfolding OfBytes callOf
-first-bytes s f = by (eqb (byteAt s 2) 0x01) (eqb (byteAt s 2) 0x02) (dataOf s) (part-bytes s headerSize (dataSize s) f)
+first-bytes s f = by (eqb (byteAt s 2) 0x01) (eqb (byteAt s 2) 0x02) (frameData s) (part-bytes s headerSize (dataSize s) f)
   where
     by : (t u : Bool) (d : List ℕ) → AreBytes d
         → OfBytes (pick t (install (drop 2 d) (wordAt d 0)) (pick u (start (wordAt d 0)) (send (drop 10 d) (part d 2 8) (zeros areaSize) (wordAt d 0))))
@@ -42,12 +42,12 @@ first-bytes s f = by (eqb (byteAt s 2) 0x01) (eqb (byteAt s 2) 0x02) (dataOf s) 
     by false false d g = (drop-bytes 10 d g, part-bytes d 2 8 g)
 
 file-bytes : (k : ℕ) (s : List ℕ) → AreBytes s → AllOfBytes (fileIn k s .calls)
-unfolding AllOfBytes fileIn ended leading
+unfolding AllOfBytes fileIn frameless leading
 file-bytes zero s f = tt
 file-bytes (suc k) s f = by (whole sizeOk s) (file-bytes k (drop (frameSize s) s) (drop-bytes (frameSize s) s f))
   where
     by : (b : Bool) → AllOfBytes (fileIn k (drop (frameSize s) s) .calls)
-        → AllOfBytes (pick b (leading (firstCall s) (fileIn k (drop (frameSize s) s))) (ended s) .calls)
+        → AllOfBytes (pick b (leading (firstCall s) (fileIn k (drop (frameSize s) s))) (frameless s) .calls)
     by true h = (first-bytes s f, h)
     by false h = tt
 

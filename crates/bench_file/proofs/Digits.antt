@@ -10,7 +10,7 @@ use Rattle.octets.specs.Bytes.{byteAt, paste}
 use Rattle.octets.proofs.Pasting.{length-paste, paste-sets, paste-next}
 use Rattle.framing.specs.Step.{Puts}
 use Rattle.bench_file.specs.Kinds.{areaSize}
-use Rattle.bench_file.specs.Lines.{digit, digits, hex, responseLine}
+use Rattle.bench_file.specs.Lines.{digit, hexPair, hex, responseLine}
 use Rattle.bench_file.specs.Stream.{longestLine}
 
 hex-append : (a b : List ℕ) → hex (a ++ b) ≡ hex a ++ hex b
@@ -24,7 +24,7 @@ length-hex [] = refl
 length-hex (x ∷ a) = let h = length-hex a in omega arith
 
 -- one byte more
-hex-more : (x : List ℕ) (i : ℕ) → i < length x → hex (take (i + 1) x) ≡ hex (take i x) ++ digits (byteAt x i)
+hex-more : (x : List ℕ) (i : ℕ) → i < length x → hex (take (i + 1) x) ≡ hex (take i x) ++ hexPair (byteAt x i)
 unfolding hex
 hex-more x i h = rw (add-one, take-suc x i 0 h, hex-append)
 

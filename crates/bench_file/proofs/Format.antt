@@ -8,10 +8,10 @@ use lib.ListN.{length, drop}
 use Rattle.octets.specs.Choice.{pick}
 use Rattle.framing.specs.declared.front.Front.{Front}
 use Rattle.framing.specs.Frames.{frameSize, isMalformed, frontOf, whole, malformed}
-use Rattle.framing.specs.Formats.{taken, refused, lastLine, linesIn, linesFrom}
+use Rattle.framing.specs.Formats.{taken, frontRefused, lastLine, linesIn, linesFrom}
 use Rattle.framing.proofs.Headers.{front-malformed}
 use Rattle.purse_spec.specs.History.{Call}
-use Rattle.bench_file.specs.Kinds.{File, sizeOk, firstCall, ended, leading, fileIn, file}
+use Rattle.bench_file.specs.Kinds.{File, sizeOk, firstCall, frameless, leading, fileIn, file}
 use Rattle.bench_file.specs.Lines.{Bench, ran, moved, line, malformedLine, callLines, fileLines, benchLines}
 use Rattle.bench_file.specs.Stream.{bench}
 
@@ -25,8 +25,8 @@ taken-is b s = by (whole sizeOk s)
     by false = refl
 
 -- and what is malformed is refused
-pub refused-is : (b : Bench) (s : List ℕ) → refused bench b s ≡ malformed sizeOk s
-unfolding refused
+pub refused-is : (b : Bench) (s : List ℕ) → frontRefused bench b s ≡ malformed sizeOk s
+unfolding frontRefused
 refused-is b s = by (malformed sizeOk s) (whole sizeOk s)
   where
     by : (m w : Bool) → (m || (w && false)) ≡ m
@@ -36,7 +36,7 @@ refused-is b s = by (malformed sizeOk s) (whole sizeOk s)
 
 -- as the code tests it, of what it lends
 pub refused-by : (b : Bench) (input rest : List ℕ) (used : ℕ) → rest ≡ drop used input → (f : Front) → f ≡ frontOf sizeOk rest
-    → (t : Bool) → t ≡ isMalformed f → t ≡ refused bench b (drop used input)
+    → (t : Bool) → t ≡ isMalformed f → t ≡ frontRefused bench b (drop used input)
 refused-by b input rest used l f e t g =
     g ∙ ap isMalformed e ∙ front-malformed sizeOk rest ∙ ap (malformed sizeOk) l ∙ sym (refused-is b (drop used input))
 
@@ -45,8 +45,8 @@ by-first : (t : Bool) (c : Call) (f last : File) (b : Bench) (x y z : List ℕ) 
 by-first true c f last b x y z h k = h
 by-first false c f last b x y z h k = k
 
-last-lines : (b : Bench) (s : List ℕ) → lastLine bench b s ≡ fileLines (ended s) b
-unfolding lastLine fileLines ended callLines
+last-lines : (b : Bench) (s : List ℕ) → lastLine bench b s ≡ fileLines (frameless s) b
+unfolding lastLine fileLines frameless callLines
 last-lines b s = by (eqb (length s) 0)
   where
     by : (t : Bool) → pick t [] malformedLine ≡ pick (not t) malformedLine []
@@ -64,7 +64,7 @@ lines-in (suc k) b s =
     let c = firstCall s in
     let rest = drop (frameSize s) s in
     rw (taken-is b s)
-    (by-first (whole sizeOk s) c (fileIn k rest) (ended s) b (line c (ran c b)) (linesIn bench k (moved c b) rest) (lastLine bench b s)
+    (by-first (whole sizeOk s) c (fileIn k rest) (frameless s) b (line c (ran c b)) (linesIn bench k (moved c b) rest) (lastLine bench b s)
     (ap (λ (u : List ℕ). line c (ran c b) ++ u) (lines-in k (moved c b) rest) ∙ leading-lines c (fileIn k rest) b)
     (last-lines b s))
 

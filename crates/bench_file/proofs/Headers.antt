@@ -8,7 +8,7 @@ use borrow.Author.Tests.{leb-true, leb-false, eqb-true, eqb-false}
 use lib.Dec.{leb, eqb}
 use Rattle.octets.specs.Choice.{pick}
 use Rattle.octets.specs.Bytes.{byteAt}
-use Rattle.framing.specs.Frames.{kindOf, dataSize, marked, headerOk, whole}
+use Rattle.framing.specs.Frames.{frameKind, dataSize, marked, headerOk, whole}
 use Rattle.framing.specs.Broken.{Broken, dataLength}
 use Rattle.framing.proofs.Fronts.{both, whole-is}
 use Rattle.framing.proofs.Headers.{broken-not-whole, not-whole-broken}
@@ -35,10 +35,10 @@ size-is kind n e =
     (leb-true _ _ (p .0), suited-kind kind n (eqb kind 0x01) (eqb kind 0x02) (eqb kind 0x03) refl refl refl (p .1))
 
 -- what a whole frame's header says
-pub whole-suited : (s : List ℕ) → whole sizeOk s ≡ true → Suited (kindOf s) (dataSize s)
+pub whole-suited : (s : List ℕ) → whole sizeOk s ≡ true → Suited (frameKind s) (dataSize s)
 unfolding headerOk
 whole-suited s w =
-    size-is (kindOf s) (dataSize s) (both (marked s) (sizeOk (kindOf s) (dataSize s)) (whole-is sizeOk s w .right) .1) .1
+    size-is (frameKind s) (dataSize s) (both (marked s) (sizeOk (frameKind s) (dataSize s)) (whole-is sizeOk s w .right) .1) .1
 
 -- ---- what is malformed is no whole frame
 

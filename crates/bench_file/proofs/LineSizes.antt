@@ -8,7 +8,7 @@ use lib.ListN.{length, take, drop, length-append, length-take, length-replicate}
 use Rattle.octets.specs.Choice.{pick}
 use Rattle.octets.specs.Bytes.{byteAt, part, zeros}
 use Rattle.octets.specs.Words.{wordAt}
-use Rattle.framing.specs.Frames.{dataOf}
+use Rattle.framing.specs.Frames.{frameData}
 use Rattle.framing.specs.Step.{Fitting}
 use Rattle.purse_spec.specs.Calls.{Run}
 use Rattle.purse_spec.specs.History.{install, start, send, run}
@@ -42,7 +42,7 @@ send-fits bytes random limit b = by (command-run .answer) (eqb (command-run .ans
 
 pub line-fits : (s : List ℕ) (b : Bench) → length (line (firstCall s) (ran (firstCall s) b)) ≤ longestLine
 unfolding callOf line
-line-fits s b = by (eqb (byteAt s 2) 0x01) (eqb (byteAt s 2) 0x02) (dataOf s)
+line-fits s b = by (eqb (byteAt s 2) 0x01) (eqb (byteAt s 2) 0x02) (frameData s)
   where
     by : (t u : Bool) (d : List ℕ)
         → (let c = pick t (install (drop 2 d) (wordAt d 0)) (pick u (start (wordAt d 0)) (send (drop 10 d) (part d 2 8) (zeros areaSize) (wordAt d 0))) in

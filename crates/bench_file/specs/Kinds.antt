@@ -8,7 +8,7 @@ use lib.ListN.{length, drop}
 use Rattle.octets.specs.Choice.{pick}
 use Rattle.octets.specs.Bytes.{zeros, part}
 use Rattle.octets.specs.Words.{wordAt}
-use Rattle.framing.specs.Frames.{kindOf, dataOf, frameSize, whole}
+use Rattle.framing.specs.Frames.{frameKind, frameData, frameSize, whole}
 use Rattle.purse_spec.specs.History.{Call, install, start, send}
 
 -- "data over 512 bytes"
@@ -38,7 +38,7 @@ callOf kind d =
 
 -- the call of the frame that leads s
 abbrev pub firstCall : List ℕ → Call
-firstCall s = callOf (kindOf s) (dataOf s)
+firstCall s = callOf (frameKind s) (frameData s)
 
 -- a file: its calls up to the end or to what is malformed, and whether something is
 pub record File : Type 0 where
@@ -46,8 +46,8 @@ pub record File : Type 0 where
   pub malformed : Bool
 
 -- a file that no frame leads: empty, or malformed
-unfoldable pub ended : List ℕ → File
-ended s = record { calls = []; malformed = not (eqb (length s) 0) }
+unfoldable pub frameless : List ℕ → File
+frameless s = record { calls = []; malformed = not (eqb (length s) 0) }
 
 -- a call before the others
 unfoldable pub leading : Call → File → File
@@ -55,8 +55,8 @@ leading c f = record { calls = c ∷ f .calls; malformed = f .malformed }
 
 -- the file that s is, of at most k frames
 unfoldable pub fileIn : ℕ → List ℕ → File
-fileIn zero s = ended s
-fileIn (suc k) s = pick (whole sizeOk s) (leading (firstCall s) (fileIn k (drop (frameSize s) s))) (ended s)
+fileIn zero s = frameless s
+fileIn (suc k) s = pick (whole sizeOk s) (leading (firstCall s) (fileIn k (drop (frameSize s) s))) (frameless s)
 
 -- the file that s is: it has fewer frames than bytes
 unfoldable pub file : List ℕ → File

@@ -20,13 +20,13 @@ unfoldable pub digit : ℕ → ℕ
 digit n = pick (ltb n 10) (0x30 + n) (0x37 + n)
 
 -- the two digits of a byte
-abbrev pub digits : ℕ → List ℕ
-digits x = digit (x / 16) ∷ digit (x % 16) ∷ []
+abbrev pub hexPair : ℕ → List ℕ
+hexPair x = digit (x / 16) ∷ digit (x % 16) ∷ []
 
 -- bytes in upper-case hex
 unfoldable pub hex : List ℕ → List ℕ
 hex [] = []
-hex (x ∷ s) = digits x ++ hex s
+hex (x ∷ s) = hexPair x ++ hex s
 
 -- a letter and the answer, a space between and a line feed behind
 unfoldable pub answerLine : ℕ → ℕ → List ℕ

@@ -1,4 +1,4 @@
--- The calls of a bench file as a list of demand 3: where a call that is no start-up follows a cut, a start-up is put between. It makes no
+-- The calls of a bench file as a list of demand 3: where a call that is no start-up follows a torn one, a start-up is put between. It makes no
 -- store and ends the session, which after answer 7 is the unselected one in any case. Assumes nothing.
 use mathlib.Core.Bool.{Bool, true, false, not, _&&_}
 use mathlib.Core.List.{List, [], _∷_}
@@ -36,7 +36,7 @@ withStartups (c ∷ cs) st =
     pick (missing c st) (inserted ∷ c ∷ withStartups cs (next c (next inserted st)))
     (c ∷ withStartups cs (next c st))
 
--- a file that "starts with a finished installation" and has no cut one
+-- a file that "starts with a finished installation" and has no torn one
 unfoldable pub StartsInstalled : List Call → Bench → Type 0
 StartsInstalled [] b = ⊥
 StartsInstalled (c ∷ cs) b = (isInstall c ≡ true) × (ran c b .answer ≡ 0) × NoneCut cs (moved c b)

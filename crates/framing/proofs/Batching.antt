@@ -58,7 +58,7 @@ pub record Going (F : Format) (S : Fitting F) (st₀ : F .Carried) (input out₀
   pub state : st ≡ far .state
   pub shows : out ≡ paste out₀ 0 (far .text)
   pub fits : length (far .text) ≤ length out₀
-  pub within : far .used ≤ length input
+  pub inside : far .used ≤ length input
   pub fuel : length input ≤ far .used + left
   pub same : batch F (length out₀) st₀ input ≡ batchIn F left (length out₀) far input
   pub good : S .Good (far .state) (length input - far .used)
@@ -75,7 +75,7 @@ module _ (F : Format) (S : Fitting F) (st₀ : F .Carried) (input out₀ : List 
         state = refl;
         shows = sym (paste-nothing out₀ 0);
         fits = omega arith;
-        within = omega arith;
+        inside = omega arith;
         fuel = omega arith;
         same = refl;
         good = subst (S .Good st₀) (omega arith) g;
@@ -83,7 +83,7 @@ module _ (F : Format) (S : Fitting F) (st₀ : F .Carried) (input out₀ : List 
 
   module _ (out : List ℕ) (used written : ℕ) (st : F .Carried) (g : Going F S st₀ input out₀ out used written st) where
     pub going-within : used ≤ length input
-    going-within = rw (g .uses) (g .within)
+    going-within = rw (g .uses) (g .inside)
 
     pub going-good : S .Good st (length input - used)
     going-good = rw (g .uses, g .state) (g .good)
@@ -126,7 +126,7 @@ module _ (F : Format) (S : Fitting F) (st₀ : F .Carried) (input out₀ : List 
             state = h .state ∙ rw (g .uses, g .state);
             shows = h .shows ∙ rw (g .uses, g .writes, g .state, g .shows) (rw zero-add at (paste-next out₀ 0 (p .text) a text f));
             fits = rw length-append (omega arith);
-            within = m;
+            inside = m;
             fuel = j .1;
             same = g .same ∙ j .2;
             good = subst (S .Good (nextOf F (p .state) rest)) d (S .good-next (p .state) rest _ (g .good) (w .1) (omega arith));

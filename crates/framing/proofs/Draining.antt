@@ -9,7 +9,7 @@ use Rattle.octets.specs.Choice.{pick}
 use Rattle.framing.specs.Frames.{headerSize}
 use Rattle.framing.specs.Formats.{Format}
 use Rattle.framing.specs.Stream.{turns, Reader, behind, behindAll, again, drains}
-use Rattle.framing.proofs.Rounds.{again-shorter}
+use Rattle.framing.proofs.PieceLines.{again-shorter}
 
 -- the reader between two turns: at most so many are left, and what they come to is what all of them come to from the start
 pub record Draining (F : Format) (room : ℕ) (start here : Reader F) : Type 0 where

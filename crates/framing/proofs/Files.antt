@@ -8,7 +8,7 @@ use borrow.Author.Tests.{ne-eqb}
 use lib.ListN.{length, drop, length-append}
 use Rattle.octets.specs.Choice.{pick}
 use Rattle.framing.specs.Frames.{headerSize, frameSize}
-use Rattle.framing.specs.Formats.{Format, taken, refused, nextOf, lineOf, lastLine, linesIn, linesFrom}
+use Rattle.framing.specs.Formats.{Format, taken, frontRefused, nextOf, lineOf, lastLine, linesIn, linesFrom}
 use Rattle.framing.proofs.Fronts.{rest-shorter, kind-append, data-append, rest-append, taken-whole, short-not-taken, taken-append, refused-append, refused-not-taken, refused-long}
 
 by-first : (b : Bool) (x s t last : List ℕ) → (b ≡ true → s ≡ t) → pick b (x ++ s) last ≡ pick b (x ++ t) last
@@ -51,7 +51,7 @@ module _ (F : Format) where
         lines-taken (s ++ t) (taken-append F st s t e) ∙ rw (rest-append (F .ok) s t w, line, next)
 
     -- what no byte can mend
-    pub lines-refused : (s t : List ℕ) → refused F st s ≡ true → linesFrom F st (s ++ t) ≡ F .refusal st
+    pub lines-refused : (s t : List ℕ) → frontRefused F st s ≡ true → linesFrom F st (s ++ t) ≡ F .refusal st
     unfolding lastLine
     lines-refused s t e =
         let h = refused-long F st s e in

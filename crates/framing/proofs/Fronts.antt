@@ -10,8 +10,8 @@ use lib.ListN.{length, drop, length-append, length-drop, List·getD-append}
 use lib.Seq.{drop-append-le}
 use Rattle.octets.specs.Bytes.{byteAt}
 use Rattle.octets.proofs.Parts.{part-left}
-use Rattle.framing.specs.Frames.{headerSize, kindOf, dataSize, dataOf, frameSize, marked, headerOk, whole, malformed}
-use Rattle.framing.specs.Formats.{Format, taken, refused}
+use Rattle.framing.specs.Frames.{headerSize, frameKind, dataSize, frameData, frameSize, marked, headerOk, whole, malformed}
+use Rattle.framing.specs.Formats.{Format, taken, frontRefused}
 
 -- of two tests that hold together, each
 pub both : (a b : Bool) → (a && b) ≡ true → (a ≡ true) × (b ≡ true)
@@ -24,7 +24,7 @@ module _ (s t : List ℕ) (h : headerSize ≤ length s) where
   same-byte : (i : ℕ) → i < headerSize → byteAt (s ++ t) i ≡ byteAt s i
   same-byte i l = List·getD-append s t 0 i (omega arith)
 
-  same-kind : kindOf (s ++ t) ≡ kindOf s
+  same-kind : frameKind (s ++ t) ≡ frameKind s
   same-kind = same-byte 2 (omega arith)
 
   same-length : dataSize (s ++ t) ≡ dataSize s
@@ -38,7 +38,7 @@ module _ (s t : List ℕ) (h : headerSize ≤ length s) where
   unfolding marked
   same-mark = simp (same-byte 0 (omega arith), same-byte 1 (omega arith))
 
-  same-data : frameSize s ≤ length s → dataOf (s ++ t) ≡ dataOf s
+  same-data : frameSize s ≤ length s → frameData (s ++ t) ≡ frameData s
   unfolding frameSize
   same-data l = rw (same-byte 3 (omega arith), same-byte 4 (omega arith), part-left s t headerSize (dataSize s) l)
 
@@ -88,10 +88,10 @@ module _ (ok : ℕ → ℕ → Bool) where
           long = rw (same-size s t (w .header), length-append) (omega (arith, w .long));
         })
 
-    pub kind-append : kindOf (s ++ t) ≡ kindOf s
+    pub kind-append : frameKind (s ++ t) ≡ frameKind s
     kind-append = same-kind s t (whole-is s e .header)
 
-    pub data-append : dataOf (s ++ t) ≡ dataOf s
+    pub data-append : frameData (s ++ t) ≡ frameData s
     data-append = same-data s t (whole-is s e .header) (whole-is s e .long)
 
     pub rest-append : drop (frameSize (s ++ t)) (s ++ t) ≡ drop (frameSize s) s ++ t
@@ -122,7 +122,7 @@ module _ (ok : ℕ → ℕ → Bool) where
 module _ (F : Format) (st : F .Carried) where
   pub taken-whole : (s : List ℕ) → taken F st s ≡ true → whole (F .ok) s ≡ true
   unfolding taken
-  taken-whole s e = both (whole (F .ok) s) (F .takes st (kindOf s) (dataOf s)) e .0
+  taken-whole s e = both (whole (F .ok) s) (F .takes st (frameKind s) (frameData s)) e .0
 
   pub short-not-taken : (s : List ℕ) → length s < headerSize → taken F st s ≡ false
   unfolding taken
@@ -133,25 +133,25 @@ module _ (F : Format) (st : F .Carried) where
   taken-append s t e =
       let w = taken-whole s e in
       rw (kind-append (F .ok) s t w, data-append (F .ok) s t w, whole-append (F .ok) s t w)
-      (both (whole (F .ok) s) (F .takes st (kindOf s) (dataOf s)) e .1)
+      (both (whole (F .ok) s) (F .takes st (frameKind s) (frameData s)) e .1)
 
   -- a refusal: no frame, or one that is not taken
   pub data Refused (s : List ℕ) : Type 0 where
     none : malformed (F .ok) s ≡ true → Refused s
-    other : whole (F .ok) s ≡ true → F .takes st (kindOf s) (dataOf s) ≡ false → Refused s
+    other : whole (F .ok) s ≡ true → F .takes st (frameKind s) (frameData s) ≡ false → Refused s
 
-  pub refused-is : (s : List ℕ) → refused F st s ≡ true → Refused s
-  unfolding refused
-  refused-is s = by (malformed (F .ok) s) (whole (F .ok) s) (F .takes st (kindOf s) (dataOf s)) refl refl refl
+  pub refused-is : (s : List ℕ) → frontRefused F st s ≡ true → Refused s
+  unfolding frontRefused
+  refused-is s = by (malformed (F .ok) s) (whole (F .ok) s) (F .takes st (frameKind s) (frameData s)) refl refl refl
     where
-      by : (a b c : Bool) → malformed (F .ok) s ≡ a → whole (F .ok) s ≡ b → F .takes st (kindOf s) (dataOf s) ≡ c → (a || (b && not c)) ≡ true → Refused s
+      by : (a b c : Bool) → malformed (F .ok) s ≡ a → whole (F .ok) s ≡ b → F .takes st (frameKind s) (frameData s) ≡ c → (a || (b && not c)) ≡ true → Refused s
       by true b c p q r e = none p
       by false true false p q r e = other q r
       by false true true p q r e = absurd (false≢true e)
       by false false c p q r e = absurd (false≢true e)
 
-  is-refused : (s : List ℕ) → Refused s → refused F st s ≡ true
-  unfolding refused
+  is-refused : (s : List ℕ) → Refused s → frontRefused F st s ≡ true
+  unfolding frontRefused
   is-refused s (none p) = rw p
   is-refused s (other p q) = rw (p, q) (by (malformed (F .ok) s))
     where
@@ -159,22 +159,22 @@ module _ (F : Format) (st : F .Carried) where
       by true = refl
       by false = refl
 
-  pub refused-append : (s t : List ℕ) → refused F st s ≡ true → refused F st (s ++ t) ≡ true
+  pub refused-append : (s t : List ℕ) → frontRefused F st s ≡ true → frontRefused F st (s ++ t) ≡ true
   refused-append s t e = is-refused (s ++ t) (by (refused-is s e))
     where
       by : Refused s → Refused (s ++ t)
       by (none p) = none (malformed-append (F .ok) s t p)
       by (other p q) = other (whole-append (F .ok) s t p) (rw (kind-append (F .ok) s t p, data-append (F .ok) s t p) q)
 
-  pub refused-not-taken : (s : List ℕ) → refused F st s ≡ true → taken F st s ≡ false
+  pub refused-not-taken : (s : List ℕ) → frontRefused F st s ≡ true → taken F st s ≡ false
   unfolding taken
   refused-not-taken s e = by (refused-is s e)
     where
-      by : Refused s → (whole (F .ok) s && F .takes st (kindOf s) (dataOf s)) ≡ false
+      by : Refused s → (whole (F .ok) s && F .takes st (frameKind s) (frameData s)) ≡ false
       by (none p) = rw (malformed-not-whole (F .ok) s p)
       by (other p q) = rw (p, q)
 
-  pub refused-long : (s : List ℕ) → refused F st s ≡ true → headerSize ≤ length s
+  pub refused-long : (s : List ℕ) → frontRefused F st s ≡ true → headerSize ≤ length s
   refused-long s e = by (refused-is s e)
     where
       by : Refused s → headerSize ≤ length s

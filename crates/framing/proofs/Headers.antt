@@ -12,7 +12,7 @@ use lib.ListN.{length}
 use Rattle.octets.specs.Choice.{pick}
 use Rattle.octets.specs.Bytes.{byteAt}
 use Rattle.framing.specs.declared.front.Front.the-variants.{Frame, Malformed, Awaited}
-use Rattle.framing.specs.Frames.{headerSize, kindOf, dataSize, frameSize, marked, leads, isFrame, isMalformed, frontOf, headerOk, whole, malformed}
+use Rattle.framing.specs.Frames.{headerSize, frameKind, dataSize, frameSize, marked, leads, isFrame, isMalformed, frontOf, headerOk, whole, malformed}
 use Rattle.framing.specs.Broken.{Broken, wrongMark, wrongData, headerCut, dataCut}
 use Rattle.framing.proofs.Fronts.{both, Whole, whole-is}
 
@@ -20,10 +20,10 @@ module _ (ok : ℕ → ℕ → Bool) (s : List ℕ) where
   not-broken : Whole ok s → Broken ok s → ⊥
   unfolding headerOk marked frameSize
   not-broken w (wrongMark f) =
-      let p = both (eqb (byteAt s 0) 0xB5 && eqb (byteAt s 1) 0xC3) (ok (kindOf s) (dataSize s)) (w .right) in
+      let p = both (eqb (byteAt s 0) 0xB5 && eqb (byteAt s 1) 0xC3) (ok (frameKind s) (dataSize s)) (w .right) in
       let q = both (eqb (byteAt s 0) 0xB5) (eqb (byteAt s 1) 0xC3) (p .0) in
       f (eqb-true _ _ (q .0)) (eqb-true _ _ (q .1))
-  not-broken w (wrongData f) = false≢true (sym f ∙ both (marked s) (ok (kindOf s) (dataSize s)) (w .right) .1)
+  not-broken w (wrongData f) = false≢true (sym f ∙ both (marked s) (ok (frameKind s) (dataSize s)) (w .right) .1)
   not-broken w (headerCut l) = let g = w .header in omega arith
   not-broken w (dataCut l) = let g = w .long in omega arith
 
@@ -37,9 +37,9 @@ module _ (ok : ℕ → ℕ → Bool) (s : List ℕ) where
 
   broken-header : headerOk ok s ≡ false → Broken ok s
   unfolding headerOk marked
-  broken-header e = by (eqb (byteAt s 0) 0xB5) (eqb (byteAt s 1) 0xC3) (ok (kindOf s) (dataSize s)) refl refl refl e
+  broken-header e = by (eqb (byteAt s 0) 0xB5) (eqb (byteAt s 1) 0xC3) (ok (frameKind s) (dataSize s)) refl refl refl e
     where
-      by : (a b c : Bool) → eqb (byteAt s 0) 0xB5 ≡ a → eqb (byteAt s 1) 0xC3 ≡ b → ok (kindOf s) (dataSize s) ≡ c → ((a && b) && c) ≡ false → Broken ok s
+      by : (a b c : Bool) → eqb (byteAt s 0) 0xB5 ≡ a → eqb (byteAt s 1) 0xC3 ≡ b → ok (frameKind s) (dataSize s) ≡ c → ((a && b) && c) ≡ false → Broken ok s
       by false b c p q r f = wrongMark (λ x y. eqb-false _ _ p x)
       by true false c p q r f = wrongMark (λ x y. eqb-false _ _ q y)
       by true true false p q r f = wrongData r
@@ -67,7 +67,7 @@ module _ (ok : ℕ → ℕ → Bool) (s : List ℕ) where
   unfolding leads isFrame whole headerOk
   front-whole =
       rw (less-is (length s) headerSize, less-is (length s) (frameSize s))
-      (by (leb headerSize (length s)) (marked s) (ok (kindOf s) (dataSize s)) (leb (frameSize s) (length s)))
+      (by (leb headerSize (length s)) (marked s) (ok (frameKind s) (dataSize s)) (leb (frameSize s) (length s)))
     where
       by : (a b c d : Bool) → isFrame (pick (not a) Awaited (pick (not b) Malformed (pick (not c) Malformed (pick (not d) Awaited Frame)))) ≡ (a && (b && c) && d)
       by false b c d = refl
@@ -81,7 +81,7 @@ module _ (ok : ℕ → ℕ → Bool) (s : List ℕ) where
   unfolding leads isMalformed malformed headerOk
   front-malformed =
       rw (less-is (length s) headerSize, less-is (length s) (frameSize s))
-      (by (leb headerSize (length s)) (marked s) (ok (kindOf s) (dataSize s)) (leb (frameSize s) (length s)))
+      (by (leb headerSize (length s)) (marked s) (ok (frameKind s) (dataSize s)) (leb (frameSize s) (length s)))
     where
       by : (a b c d : Bool) → isMalformed (pick (not a) Awaited (pick (not b) Malformed (pick (not c) Malformed (pick (not d) Awaited Frame)))) ≡ (a && not (b && c))
       by false b c d = refl

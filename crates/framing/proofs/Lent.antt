@@ -8,7 +8,7 @@ use native.Mathlib.Decide.{decLe}
 use native.Mathlib.Nat.{lt-of-not-le}
 use lib.ListN.{length, take, drop, length-drop}
 use lib.Seq.{take-all, take-length}
-use Rattle.framing.specs.Frames.{headerSize, dataSize, dataOf, frameSize, whole}
+use Rattle.framing.specs.Frames.{headerSize, dataSize, frameData, frameSize, whole}
 use Rattle.framing.proofs.Fronts.{whole-is}
 
 -- the end of a byte string, as it is lent
@@ -32,6 +32,6 @@ module _ (ok : ℕ → ℕ → Bool) (s : List ℕ) (end : ℕ) (w : whole ok s 
   pub end-within : end ≤ length s
   end-within = let l = whole-is ok s w .long in rw e l
 
-  pub lent-data : take (end - headerSize) (drop headerSize s) ≡ dataOf s
+  pub lent-data : take (end - headerSize) (drop headerSize s) ≡ frameData s
   unfolding frameSize
   lent-data = let n : end - headerSize ≡ dataSize s = omega arith in rw n

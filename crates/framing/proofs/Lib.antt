@@ -4,7 +4,7 @@ pub mod Files
 pub mod Made
 pub mod Ends
 pub mod StreamLines
-pub mod Rounds
+pub mod PieceLines
 pub mod Draining
 pub mod Silence
 pub mod Batching

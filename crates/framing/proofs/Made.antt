@@ -9,7 +9,7 @@ use lib.Seq.{drop-at}
 use Rattle.octets.specs.Words.{word}
 use Rattle.octets.proofs.Numbers.{word-read}
 use Rattle.octets.proofs.Parts.{part-between}
-use Rattle.framing.specs.Frames.{headerSize, frameOf, kindOf, dataSize, dataOf, frameSize, marked, headerOk, whole}
+use Rattle.framing.specs.Frames.{headerSize, frameOf, frameKind, dataSize, frameData, frameSize, marked, headerOk, whole}
 use Rattle.framing.specs.Formats.{Format, taken, nextOf, lineOf, linesFrom}
 use Rattle.framing.proofs.Fronts.{is-whole}
 use Rattle.framing.proofs.Files.{lines-taken}
@@ -23,11 +23,11 @@ module _ (kind : ℕ) (d t : List ℕ) where
   unfolding frameOf
   size-read = word-read (length d)
 
-  kind-read : kindOf (frameOf kind d ++ t) ≡ kind
+  kind-read : frameKind (frameOf kind d ++ t) ≡ kind
   unfolding frameOf
   kind-read = refl
 
-  data-read : dataOf (frameOf kind d ++ t) ≡ d
+  data-read : frameData (frameOf kind d ++ t) ≡ d
   unfolding frameOf
   data-read = rw size-read (part-between (0xB5 ∷ 0xC3 ∷ kind ∷ word (length d)) d t headerSize (length d) refl refl)
 
@@ -54,7 +54,7 @@ module _ (kind : ℕ) (d t : List ℕ) where
       let s = frameOf kind d ++ t in
       let k = kind-read in
       let x = data-read in
-      let took : F .takes st (kindOf s) (dataOf s) ≡ true = (λ i. F .takes st (k i) (x i)) ∙ h in
+      let took : F .takes st (frameKind s) (frameData s) ≡ true = (λ i. F .takes st (k i) (x i)) ∙ h in
       let line : lineOf F st s ≡ F .line st kind d = λ i. F .line st (k i) (x i) in
       let next : nextOf F st s ≡ F .next st kind d = λ i. F .next st (k i) (x i) in
       lines-taken F st s (rw (frame-whole (F .ok) e) took) ∙ rw (rest-read, line, next)

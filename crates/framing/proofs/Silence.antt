@@ -7,8 +7,8 @@ use native.Mathlib.Omega.{arith}
 use lib.ListN.{drop}
 use Rattle.octets.specs.Choice.{pick}
 use Rattle.framing.specs.declared.next.Next.the-variants.{Full, More, Over}
-use Rattle.framing.specs.Formats.{Format, refused}
-use Rattle.framing.specs.Stream.{Event, arrives, turns, Batch, Reader, roomy, batch, going, ending, turnOf, turn, behind, writes, behindAll, writesAll, closes}
+use Rattle.framing.specs.Formats.{Format, frontRefused}
+use Rattle.framing.specs.Stream.{Event, arrives, turns, Batch, Reader, roomy, batch, going, ending, turnOf, turn, behind, prints, behindAll, printsAll, closes}
 
 module _ (F : Format) where
   -- the lines of the frames, then the refusal
@@ -16,7 +16,7 @@ module _ (F : Format) where
       → turn F room st s .text ≡ batch F room st s .text ++ F .refusal (batch F room st s .state)
   unfolding turn turnOf going ending
   over-writes room st s =
-      by (batch F room st s) (roomy F room (batch F room st s .text)) (refused F (batch F room st s .state) (drop (batch F room st s .used) s))
+      by (batch F room st s) (roomy F room (batch F room st s .text)) (frontRefused F (batch F room st s .state) (drop (batch F room st s .used) s))
     where
       by : (p : Batch F) (f v : Bool) → pick (not f) (going F Full p) (pick v (ending F p) (going F More p)) .next ≡ Over
           → pick (not f) (going F Full p) (pick v (ending F p) (going F More p)) .text ≡ p .text ++ F .refusal (p .state)
@@ -25,8 +25,8 @@ module _ (F : Format) where
       by p true false e = let z : _≡_ {A = ℕ} 0 1 = cc in absurd (omega arith)
 
   -- nothing more, by what arrives, by turns or by the end of the file
-  pub over-silent : (es : List Event) (r : Reader F) → r .over ≡ true → writesAll F es r ++ closes F (behindAll F es r) ≡ []
-  unfolding writesAll behindAll closes behind writes
+  pub over-silent : (es : List Event) (r : Reader F) → r .over ≡ true → printsAll F es r ++ closes F (behindAll F es r) ≡ []
+  unfolding printsAll behindAll closes behind prints
   over-silent [] r e = rw e
   over-silent (arrives p ∷ es) r e = over-silent es (behind F (arrives p) r) e
   over-silent (turns room ∷ es) r e = rw e (over-silent es (record { rest = r .rest; state = r .state; over = true }) refl)

@@ -1,4 +1,4 @@
--- However a file is cut into pieces, and however large the output areas are, what is written in all are its lines. Assumes nothing.
+-- However a file is split into pieces, and however large the output areas are, what is written in all are its lines. Assumes nothing.
 use Prim.Native.Nat.{ℕ, zero, suc, _+_, _≤_}
 use mathlib.Core.Bool.{Bool, true, false, not}
 use mathlib.Core.List.{List, [], _∷_, _++_, append-assoc, append-nil}
@@ -10,8 +10,8 @@ use Rattle.octets.specs.Choice.{pick}
 use Rattle.octets.proofs.Rules.{and-right}
 use Rattle.framing.specs.declared.next.Next.the-variants.{Full, More}
 use Rattle.framing.specs.Frames.{frameSize}
-use Rattle.framing.specs.Formats.{Format, taken, refused, linesFrom}
-use Rattle.framing.specs.Stream.{Event, arrives, turns, arrived, isOver, Batch, Reader, still, roomy, goesOn, extended, batchIn, batch, going, ending, turnOf, turn, first, afterTurn, behind, writes, behindAll, writesAll, closes}
+use Rattle.framing.specs.Formats.{Format, taken, frontRefused, linesFrom}
+use Rattle.framing.specs.Stream.{Event, arrives, turns, arrived, isOver, Batch, Reader, still, roomy, goesOn, extended, batchIn, batch, going, ending, turnOf, turn, first, afterTurn, behind, prints, behindAll, printsAll, closes}
 use Rattle.framing.proofs.Fronts.{both, short-not-taken}
 use Rattle.framing.proofs.Files.{lines-in-hand, lines-last, lines-refused}
 
@@ -61,9 +61,9 @@ module _ (F : Format) where
   module _ (room : ℕ) (s t : List ℕ) where
     behind-batch : (p : Batch F) → ahead p s t ≡ turnOf F room p s .text ++ remaining (afterTurn F (turnOf F room p s) s) t
     unfolding turnOf going ending afterTurn isOver
-    behind-batch p = by (roomy F room (p .text)) (refused F (p .state) (drop (p .used) s)) refl
+    behind-batch p = by (roomy F room (p .text)) (frontRefused F (p .state) (drop (p .used) s)) refl
       where
-        by : (f v : Bool) → refused F (p .state) (drop (p .used) s) ≡ v
+        by : (f v : Bool) → frontRefused F (p .state) (drop (p .used) s) ≡ v
             → ahead p s t ≡ pick (not f) (going F Full p) (pick v (ending F p) (going F More p)) .text
             ++ remaining (afterTurn F (pick (not f) (going F Full p) (pick v (ending F p) (going F More p))) s) t
         by false v e = refl
@@ -77,7 +77,7 @@ module _ (F : Format) where
   -- behind a turn that is not full no frame is left that is taken
   pub settled : (room : ℕ) (st : F .Carried) (s : List ℕ) → (turn F room st s .next ≡ Full → ⊥) → taken F (turn F room st s .state) (drop (turn F room st s .used) s) ≡ false
   unfolding turn turnOf going ending batch still goesOn
-  settled room st s = by (batch F room st s) (batch-ends room s (length s) (still F st) (omega arith)) _ refl (refused F _ _)
+  settled room st s = by (batch F room st s) (batch-ends room s (length s) (still F st) (omega arith)) _ refl (frontRefused F _ _)
     where
       by : (p : Batch F) → goesOn F room p s ≡ false → (f : Bool) → roomy F room (p .text) ≡ f → (v : Bool)
           → (pick (not f) (going F Full p) (pick v (ending F p) (going F More p)) .next ≡ Full → ⊥)
@@ -88,8 +88,8 @@ module _ (F : Format) where
 
   -- ---- pieces
 
-  one-turn : (room : ℕ) (r : Reader F) (t : List ℕ) → remaining r t ≡ writes F (turns room) r ++ remaining (behind F (turns room) r) t
-  unfolding writes behind
+  one-turn : (room : ℕ) (r : Reader F) (t : List ℕ) → remaining r t ≡ prints F (turns room) r ++ remaining (behind F (turns room) r) t
+  unfolding prints behind
   one-turn room r t = by (r .over) refl
     where
       by : (o : Bool) → r .over ≡ o
@@ -99,8 +99,8 @@ module _ (F : Format) where
       by false e = turn-lines room (r .rest) t (r .state)
 
   -- at every moment: what was written, and the lines of what is to come
-  pub events-lines : (es : List Event) (r : Reader F) (t : List ℕ) → remaining r (arrived es ++ t) ≡ writesAll F es r ++ remaining (behindAll F es r) t
-  unfolding arrived writesAll behindAll behind writes
+  pub events-lines : (es : List Event) (r : Reader F) (t : List ℕ) → remaining r (arrived es ++ t) ≡ printsAll F es r ++ remaining (behindAll F es r) t
+  unfolding arrived printsAll behindAll behind prints
   events-lines [] r t = refl
   events-lines (arrives p ∷ es) r t = rw (append-assoc, ← append-assoc (r .rest) p (arrived es ++ t)) (events-lines es (behind F (arrives p) r) t)
   events-lines (turns room ∷ es) r t =
@@ -111,8 +111,8 @@ module _ (F : Format) where
   closing-lines r h = rw (append-nil, lines-last F (r .state) (r .rest) h)
 
   -- the pieces that arrived, and turns among them such that no frame is left at the end that is taken
-  pub pieces-lines : (st : F .Carried) (es : List Event) → taken F (behindAll F es (first F st) .state) (behindAll F es (first F st) .rest) ≡ false
-      → writesAll F es (first F st) ++ closes F (behindAll F es (first F st)) ≡ linesFrom F st (arrived es)
+  pub settled-lines : (st : F .Carried) (es : List Event) → taken F (behindAll F es (first F st) .state) (behindAll F es (first F st) .rest) ≡ false
+      → printsAll F es (first F st) ++ closes F (behindAll F es (first F st)) ≡ linesFrom F st (arrived es)
   unfolding first
-  pieces-lines st es h =
+  settled-lines st es h =
       rw (← closing-lines (behindAll F es (first F st)) h, ← events-lines es (first F st) [], append-nil)

@@ -13,7 +13,7 @@ use Rattle.octets.specs.Bytes.{paste}
 use Rattle.octets.proofs.Pasting.{length-paste, paste-next}
 use Rattle.framing.specs.declared.next.Next.the-variants.{Full, More, Over}
 use Rattle.framing.specs.Frames.{frameSize}
-use Rattle.framing.specs.Formats.{Format, taken, refused, nextOf, lineOf}
+use Rattle.framing.specs.Formats.{Format, taken, frontRefused, nextOf, lineOf}
 use Rattle.framing.specs.Stream.{Batch, Turn, still, roomy, goesOn, extended, batchIn, batch, going, ending, turnOf, turn}
 use Rattle.framing.specs.Step.{Fitting, Puts, Batches, Turns}
 use Rattle.framing.proofs.Fronts.{both, taken-whole}
@@ -78,7 +78,7 @@ module _ (F : Format) (S : Fitting F) where
         let t = lt-leb (length (p .text) + F .longest) (length out) l in
         record { uses = rw t (e .uses); writes = rw t (e .writes); state = rw t (e .state); goes = rw t; shows = rw t (e .shows) }
 
-    module _ (enough : F .longest ≤ length out′ - written) (b : Bool) (h : b ≡ refused F st′ (drop used input)) where
+    module _ (enough : F .longest ≤ length out′ - written) (b : Bool) (h : b ≡ frontRefused F st′ (drop used input)) where
       fits : leb (length (batch F (length out) st input .text) + F .longest) (length out) ≡ true
       fits =
           let p = batch F (length out) st input in
@@ -86,7 +86,7 @@ module _ (F : Format) (S : Fitting F) where
           let m = done-written in
           le-leb (length (p .text) + F .longest) (length out) (omega (arith, same-room))
 
-      behind : (v : Bool) → b ≡ v → refused F (batch F (length out) st input .state) (drop (batch F (length out) st input .used) input) ≡ v
+      behind : (v : Bool) → b ≡ v → frontRefused F (batch F (length out) st input .state) (drop (batch F (length out) st input .used) input) ≡ v
       behind v t = rw (← e .uses, ← e .state) (sym h ∙ t)
 
       -- more bytes are awaited
@@ -129,7 +129,7 @@ module _ (F : Format) (S : Fitting F) where
   pub turn-kept : (room : ℕ) (st : F .Carried) (s : List ℕ) → S .Good st (length s)
       → (turn F room st s .used ≤ length s) × (length (turn F room st s .text) ≤ room) × S .Good (turn F room st s .state) (length s - turn F room st s .used)
   unfolding turn turnOf going ending
-  turn-kept room st s g = by (batch F room st s) (kept room st s g) (roomy F room (batch F room st s .text)) refl (refused F (batch F room st s .state) (drop (batch F room st s .used) s))
+  turn-kept room st s g = by (batch F room st s) (kept room st s g) (roomy F room (batch F room st s .text)) refl (frontRefused F (batch F room st s .state) (drop (batch F room st s .used) s))
     where
       by : (p : Batch F) → Fitted F S room s p → (f : Bool) → roomy F room (p .text) ≡ f → (v : Bool)
           → (let t = pick (not f) (going F Full p) (pick v (ending F p) (going F More p)) in (t .used ≤ length s) × (length (t .text) ≤ room) × S .Good (t .state) (length s - t .used))

@@ -5,7 +5,7 @@ use mathlib.Core.List.{List, [], _++_}
 use lib.Dec.{eqb}
 use lib.ListN.{length, drop}
 use Rattle.octets.specs.Choice.{pick}
-use Rattle.framing.specs.Frames.{kindOf, dataOf, frameSize, whole, malformed}
+use Rattle.framing.specs.Frames.{frameKind, frameData, frameSize, whole, malformed}
 
 -- which frames there are, which of them are taken in a state, what each does to the state and writes; what is written where one is
 -- refused, and at the end; and how long a line may be
@@ -22,18 +22,18 @@ pub record Format : Type 1 where
 module _ (F : Format) where
   -- a frame leads s, and it is taken
   unfoldable pub taken : F .Carried → List ℕ → Bool
-  taken st s = whole (F .ok) s && F .takes st (kindOf s) (dataOf s)
+  taken st s = whole (F .ok) s && F .takes st (frameKind s) (frameData s)
 
   -- what leads s is refused, whatever follows s: it is no frame, or one that is not taken
-  unfoldable pub refused : F .Carried → List ℕ → Bool
-  refused st s = malformed (F .ok) s || (whole (F .ok) s && not (F .takes st (kindOf s) (dataOf s)))
+  unfoldable pub frontRefused : F .Carried → List ℕ → Bool
+  frontRefused st s = malformed (F .ok) s || (whole (F .ok) s && not (F .takes st (frameKind s) (frameData s)))
 
   -- the state behind the frame that leads s, and its line
   abbrev pub nextOf : F .Carried → List ℕ → F .Carried
-  nextOf st s = F .next st (kindOf s) (dataOf s)
+  nextOf st s = F .next st (frameKind s) (frameData s)
 
   abbrev pub lineOf : F .Carried → List ℕ → List ℕ
-  lineOf st s = F .line st (kindOf s) (dataOf s)
+  lineOf st s = F .line st (frameKind s) (frameData s)
 
   -- what is written where no frame leads s that is taken: at the end the closing, before it the refusal
   unfoldable pub lastLine : F .Carried → List ℕ → List ℕ

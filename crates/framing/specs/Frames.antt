@@ -20,16 +20,16 @@ unfoldable pub frameOf : ℕ → List ℕ → List ℕ
 frameOf kind d = 0xB5 ∷ 0xC3 ∷ kind ∷ (word (length d) ++ d)
 
 -- of the frame that leads s, the kind
-abbrev pub kindOf : List ℕ → ℕ
-kindOf s = byteAt s 2
+abbrev pub frameKind : List ℕ → ℕ
+frameKind s = byteAt s 2
 
 -- how many bytes of data it has
 abbrev pub dataSize : List ℕ → ℕ
 dataSize s = wordAt s 3
 
 -- its data
-abbrev pub dataOf : List ℕ → List ℕ
-dataOf s = part s headerSize (dataSize s)
+abbrev pub frameData : List ℕ → List ℕ
+frameData s = part s headerSize (dataSize s)
 
 -- its length
 unfoldable pub frameSize : List ℕ → ℕ
@@ -61,11 +61,11 @@ isMalformed Awaited = false
 module _ (ok : ℕ → ℕ → Bool) where
   -- what leads s
   abbrev pub frontOf : List ℕ → Front
-  frontOf s = leads (ok (kindOf s) (dataSize s)) s
+  frontOf s = leads (ok (frameKind s) (dataSize s)) s
 
   -- whether the header that leads s is one
   unfoldable pub headerOk : List ℕ → Bool
-  headerOk s = marked s && ok (kindOf s) (dataSize s)
+  headerOk s = marked s && ok (frameKind s) (dataSize s)
 
   -- a whole frame leads s
   unfoldable pub whole : List ℕ → Bool

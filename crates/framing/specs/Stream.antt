@@ -9,7 +9,7 @@ use Rattle.octets.specs.Choice.{pick}
 use Rattle.framing.specs.declared.next.Next.{Next}
 use Rattle.framing.specs.declared.next.Next.the-variants.{Full, More, Over}
 use Rattle.framing.specs.Frames.{frameSize}
-use Rattle.framing.specs.Formats.{Format, taken, refused, nextOf, lineOf, lastLine}
+use Rattle.framing.specs.Formats.{Format, taken, frontRefused, nextOf, lineOf, lastLine}
 
 -- bytes arrive, or there is a turn with an output area of so many bytes
 pub data Event : Type 0 where
@@ -23,9 +23,9 @@ arrived (arrives p ∷ es) = p ++ arrived es
 arrived (turns room ∷ es) = arrived es
 
 -- the pieces in a row
-unfoldable pub joined : List (List ℕ) → List ℕ
-joined [] = []
-joined (p ∷ ps) = p ++ joined ps
+unfoldable pub together : List (List ℕ) → List ℕ
+together [] = []
+together (p ∷ ps) = p ++ together ps
 
 -- the refusal is written
 unfoldable pub isOver : Next → Bool
@@ -98,7 +98,7 @@ module _ (F : Format) where
   unfoldable pub turnOf : ℕ → Batch F → List ℕ → Turn F
   turnOf room t s =
       pick (not (roomy room (t .text))) (going Full t)
-      (pick (refused F (t .state) (drop (t .used) s)) (ending t)
+      (pick (frontRefused F (t .state) (drop (t .used) s)) (ending t)
       (going More t))
 
   -- a turn on the bytes in hand, with an output area of so many bytes
@@ -119,18 +119,18 @@ module _ (F : Format) where
   behind (turns room) r = pick (r .over) r (afterTurn (turn room (r .state) (r .rest)) (r .rest))
 
   -- what an event writes
-  unfoldable pub writes : Event → Reader F → List ℕ
-  writes (arrives p) r = []
-  writes (turns room) r = pick (r .over) [] (turn room (r .state) (r .rest) .text)
+  unfoldable pub prints : Event → Reader F → List ℕ
+  prints (arrives p) r = []
+  prints (turns room) r = pick (r .over) [] (turn room (r .state) (r .rest) .text)
 
   -- behind a list of events, and what they write
   unfoldable pub behindAll : List Event → Reader F → Reader F
   behindAll [] r = r
   behindAll (e ∷ es) r = behindAll es (behind e r)
 
-  unfoldable pub writesAll : List Event → Reader F → List ℕ
-  writesAll [] r = []
-  writesAll (e ∷ es) r = writes e r ++ writesAll es (behind e r)
+  unfoldable pub printsAll : List Event → Reader F → List ℕ
+  printsAll [] r = []
+  printsAll (e ∷ es) r = prints e r ++ printsAll es (behind e r)
 
   -- what the end of the file writes
   unfoldable pub closes : Reader F → List ℕ
@@ -146,10 +146,10 @@ module _ (F : Format) where
   drains (suc k) room r = turns room ∷ pick (again room r) (drains k room (behind (turns room) r)) []
 
   -- a piece arrives, and there are turns until one is not full
-  unfoldable pub round : ℕ → List ℕ → Reader F → List Event
-  round room p r = let now = behind (arrives p) r in arrives p ∷ drains (length (now .rest)) room now
+  unfoldable pub onPiece : ℕ → List ℕ → Reader F → List Event
+  onPiece room p r = let now = behind (arrives p) r in arrives p ∷ drains (length (now .rest)) room now
 
   -- what the program does with pieces
-  unfoldable pub rounds : ℕ → List (List ℕ) → Reader F → List Event
-  rounds room [] r = []
-  rounds room (p ∷ ps) r = round room p r ++ rounds room ps (behindAll (round room p r) r)
+  unfoldable pub onPieces : ℕ → List (List ℕ) → Reader F → List Event
+  onPieces room [] r = []
+  onPieces room (p ∷ ps) r = onPiece room p r ++ onPieces room ps (behindAll (onPiece room p r) r)

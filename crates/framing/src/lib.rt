@@ -1,4 +1,4 @@
-// Frames: mark, kind, length and data, from a stream that is cut anywhere. What all readers of such files share; each has its own kinds,
+// Frames: mark, kind, length and data, from a stream that is split anywhere. What all readers of such files share; each has its own kinds,
 // its own step and its own loop.
 mod front;
 mod next;

@@ -19,7 +19,7 @@ loop-holds : tie.Need-loop-holds Inv-loop μ-loop
 loop-holds c = (refl, refl, hand-start _ _ _ _ (c .before .before .before .pre .0))
 
 turn-requires : tie.Need-turn-requires Inv-loop μ-loop
-turn-requires c κs = c .before .before .before .loop .inv .2 .within
+turn-requires c κs = c .before .before .before .loop .inv .2 .inside
 
 loop-less : tie.Need-loop-less Inv-loop μ-loop
 loop-less c =
@@ -38,7 +38,7 @@ same-length-2 c = search needs
 returns : tie.Need-returns Inv-loop μ-loop
 returns c =
     let d = c .before .loop .inv .2 in
-    record { within = d .within; drains = d .last (c .loop-test .left) }
+    record { inside = d .inside; drains = d .last (c .loop-test .left) }
 
 pub run-in-hand-spec : {M : Type 1} → statement M
 run-in-hand-spec =

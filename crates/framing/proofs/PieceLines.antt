@@ -11,10 +11,10 @@ use Rattle.octets.specs.Choice.{pick}
 use Rattle.framing.specs.declared.next.Next.{Next}
 use Rattle.framing.specs.declared.next.Next.the-variants.{Full, More}
 use Rattle.framing.specs.Frames.{headerSize, frameSize}
-use Rattle.framing.specs.Formats.{Format, taken, refused, linesFrom}
-use Rattle.framing.specs.Stream.{Event, arrives, turns, arrived, joined, isOver, isFull, Batch, Reader, still, roomy, goesOn, extended, batchIn, batch, going, ending, turnOf, turn, first, afterTurn, behind, behindAll, writesAll, closes, again, drains, round, rounds}
+use Rattle.framing.specs.Formats.{Format, taken, frontRefused, linesFrom}
+use Rattle.framing.specs.Stream.{Event, arrives, turns, arrived, together, isOver, isFull, Batch, Reader, still, roomy, goesOn, extended, batchIn, batch, going, ending, turnOf, turn, first, afterTurn, behind, behindAll, printsAll, closes, again, drains, onPiece, onPieces}
 use Rattle.framing.proofs.Fronts.{short-not-taken, refused-append, refused-not-taken}
-use Rattle.framing.proofs.StreamLines.{settled, pieces-lines}
+use Rattle.framing.proofs.StreamLines.{settled, settled-lines}
 
 not-full : (n : Next) → isFull n ≡ false → n ≡ Full → ⊥
 unfolding isFull
@@ -42,7 +42,7 @@ module _ (F : Format) where
   pub full-moves : (room : ℕ) (b : F .Carried) (s : List ℕ) → F .longest ≤ room → isFull (turn F room b s .next) ≡ true → headerSize ≤ turn F room b s .used
   unfolding turn turnOf going ending batch still isFull
   full-moves room b s l =
-      by (batch F room b s) (moves room s (length s) (still F b) (λ z. omega arith)) _ refl (refused F _ _)
+      by (batch F room b s) (moves room s (length s) (still F b) (λ z. omega arith)) _ refl (frontRefused F _ _)
     where
       by : (st : Batch F) → (0 < length (st .text) → headerSize ≤ st .used) → (f : Bool) → leb (length (st .text) + F .longest) room ≡ f → (v : Bool)
           → isFull (pick (not f) (going F Full st) (pick v (ending F st) (going F More st)) .next) ≡ true
@@ -54,13 +54,13 @@ module _ (F : Format) where
   -- ---- after X nothing can be mended
 
   abbrev Mendless : Reader F → Type 0
-  Mendless r = r .over ≡ true → refused F (r .state) (r .rest) ≡ true
+  Mendless r = r .over ≡ true → frontRefused F (r .state) (r .rest) ≡ true
 
   over-refused : (room : ℕ) (b : F .Carried) (s : List ℕ) → Mendless (afterTurn F (turn F room b s) s)
   unfolding turn turnOf going ending afterTurn isOver
   over-refused room b s = by (batch F room b s) (roomy F room (batch F room b s .text)) _ refl
     where
-      by : (st : Batch F) (f v : Bool) → refused F (st .state) (drop (st .used) s) ≡ v → Mendless (afterTurn F (pick (not f) (going F Full st) (pick v (ending F st) (going F More st))) s)
+      by : (st : Batch F) (f v : Bool) → frontRefused F (st .state) (drop (st .used) s) ≡ v → Mendless (afterTurn F (pick (not f) (going F Full st) (pick v (ending F st) (going F More st))) s)
       by st false v e z = absurd (false≢true z)
       by st true true e z = e
       by st true false e z = absurd (false≢true z)
@@ -130,13 +130,13 @@ module _ (F : Format) where
   behind-append [] fs r = refl
   behind-append (e ∷ es) fs r = behind-append es fs (behind F e r)
 
-  rounds-done : (room : ℕ) (ps : List (List ℕ)) (r : Reader F) → F .longest ≤ room → Drained r → Drained (behindAll F (rounds F room ps r) r)
-  unfolding rounds behindAll round
-  rounds-done room [] r l h = h
-  rounds-done room (p ∷ ps) r l h =
+  pieces-done : (room : ℕ) (ps : List (List ℕ)) (r : Reader F) → F .longest ≤ room → Drained r → Drained (behindAll F (onPieces F room ps r) r)
+  unfolding onPieces behindAll onPiece
+  pieces-done room [] r l h = h
+  pieces-done room (p ∷ ps) r l h =
       let now = behind F (arrives p) r in
-      rw (behind-append (round F room p r) (rounds F room ps (behindAll F (round F room p r) r)) r)
-      (rounds-done room ps (behindAll F (round F room p r) r) l
+      rw (behind-append (onPiece F room p r) (onPieces F room ps (behindAll F (onPiece F room p r) r)) r)
+      (pieces-done room ps (behindAll F (onPiece F room p r) r) l
       (drains-done room (length (now .rest)) now l (piece-mendless p r (h .mendless)) (omega arith)))
 
   drains-arrived : (room k : ℕ) (r : Reader F) → arrived (drains F k room r) ≡ []
@@ -148,17 +148,17 @@ module _ (F : Format) where
       by true e = e
       by false e = refl
 
-  rounds-arrived : (room : ℕ) (ps : List (List ℕ)) (r : Reader F) → arrived (rounds F room ps r) ≡ joined ps
-  unfolding rounds round joined arrived
-  rounds-arrived room [] r = refl
-  rounds-arrived room (p ∷ ps) r =
+  pieces-arrived : (room : ℕ) (ps : List (List ℕ)) (r : Reader F) → arrived (onPieces F room ps r) ≡ together ps
+  unfolding onPieces onPiece together arrived
+  pieces-arrived room [] r = refl
+  pieces-arrived room (p ∷ ps) r =
       let now = behind F (arrives p) r in
-      rw (arrived-append (round F room p r) (rounds F room ps (behindAll F (round F room p r) r)), drains-arrived room (length (now .rest)) now, append-nil, rounds-arrived room ps (behindAll F (round F room p r) r))
+      rw (arrived-append (onPiece F room p r) (onPieces F room ps (behindAll F (onPiece F room p r) r)), drains-arrived room (length (now .rest)) now, append-nil, pieces-arrived room ps (behindAll F (onPiece F room p r) r))
 
-  -- THE PIECES: however a file is cut, what is written for the pieces and at the end are the file's lines
-  pub rounds-lines : (st : F .Carried) (room : ℕ) → F .longest ≤ room → (ps : List (List ℕ))
-      → writesAll F (rounds F room ps (first F st)) (first F st) ++ closes F (behindAll F (rounds F room ps (first F st)) (first F st)) ≡ linesFrom F st (joined ps)
+  -- THE PIECES: however a file is split, what is written for the pieces and at the end are the file's lines
+  pub pieces-lines : (st : F .Carried) (room : ℕ) → F .longest ≤ room → (ps : List (List ℕ))
+      → printsAll F (onPieces F room ps (first F st)) (first F st) ++ closes F (behindAll F (onPieces F room ps (first F st)) (first F st)) ≡ linesFrom F st (together ps)
   unfolding first
-  rounds-lines st room l ps =
-      let d = rounds-done room ps (first F st) l (record { done = short-not-taken F st [] (omega arith); mendless = λ e. absurd (false≢true e) }) in
-      pieces-lines F st (rounds F room ps (first F st)) (d .done) ∙ ap (linesFrom F st) (rounds-arrived room ps (first F st))
+  pieces-lines st room l ps =
+      let d = pieces-done room ps (first F st) l (record { done = short-not-taken F st [] (omega arith); mendless = λ e. absurd (false≢true e) }) in
+      settled-lines F st (onPieces F room ps (first F st)) (d .done) ∙ ap (linesFrom F st) (pieces-arrived room ps (first F st))
