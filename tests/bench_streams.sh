@@ -20,7 +20,7 @@ worked_example() {
     done
 }
 
-# 6,000 READ RECORD commands, whose lines are thrice as long as their records: the lines of one piece are more than a buffer.
+# 6,000 READ RECORD commands, whose lines are thrice as long as their frames: the lines of one piece are more than a buffer.
 long_file() {
     "$second" bench-run "$stored/records.bench" >"$work/records.lines"
     target/bin/bench "$stored/records.bench" >"$work/records.got"

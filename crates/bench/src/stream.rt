@@ -1,36 +1,37 @@
-// A bench file as it comes from a descriptor: in pieces of any size, each run as far as its records are whole, before the next is awaited.
-ghost use mathlib.Core.Bool.{true};
+// A bench file as it comes from a descriptor: in pieces of any size, each run as far as its frames are whole, before the next is awaited.
 ghost use mathlib.Core.Path.{_≡_};
 ghost use Prim.Native.Nat.{_≤_, _<_};
 ghost use lib.ListN.{length};
+ghost use Rattle.bench_file.specs.Stream.{longestLine};
 ghost use Rattle.bench.specs.Going.{turnsAgain, fileGoesOn};
-use bench_file::Next;
+ghost use Rattle.bench.specs.InHand.{HandTurned, HandDrained, PieceRun};
+use framing::Next;
 use session::Session;
 use session::unselected;
 
-// How many of the bytes in hand are used, whether more can be used at once, whether the file goes on, and the session.
+// How many of the bytes in hand are used, whether more can be used at once, whether the file goes on, whether all lines were written, and
+// the session.
 struct Hand {
     used: usize,
     again: bool,
     on: bool,
+    done: bool,
     session: Session,
 }
 
-// How many bytes are in hand, whether the file goes on, and the session.
+// How many bytes are in hand, whether the file goes on, whether all lines were written, and the session.
 struct Kept {
     have: usize,
     on: bool,
+    done: bool,
     session: Session,
 }
 
 // Whether more of the bytes in hand can be used at once: the lines are written, and had no room before.
-fn again(next: Next, done: bool, used: usize) -> bool
-    ensures { λ r. ⌜ r ≡ turnsAgain next done used ⌝ }
+fn again(next: Next, done: bool) -> bool
+    ensures { λ r. ⌜ r ≡ turnsAgain next done ⌝ }
 {
     if !done {
-        return false;
-    }
-    if used == 0 {
         return false;
     }
     match next {
@@ -63,10 +64,11 @@ fn write(bytes: &[u8]) -> bool {
     done
 }
 
-// One turn, whose lines are written.
+// One turn, whose lines are written together.
 fn turn(memory: &mut [u8], session: Session, input: &[u8], used: usize, output: &mut [u8]) -> Hand
     requires { ⌜ used ≤ length (now input) ⌝ }
-    ensures { λ r. ⌜ (r .used ≤ length (now (input .entry))) × (r .again ≡ true → used < r .used) ⌝ }
+    ensures { λ r. ⌜ HandTurned (now (memory .entry)) session (now (input .entry)) used (now (output .entry))
+        r (now (memory .exit)) (now (output .exit)) ⌝ }
 {
     let turned = bench_file::turn(memory, session, &input[used..], output);
     let n = turned.written;
@@ -76,20 +78,23 @@ fn turn(memory: &mut [u8], session: Session, input: &[u8], used: usize, output: 
     let after = turned.session;
     Hand {
         used: used + more,
-        again: again(next, done, more),
+        again: again(next, done),
         on: goes_on(next, done),
+        done: done,
         session: after,
     }
 }
 
-// All whole records in hand.
+// All whole frames in hand.
 fn run_in_hand(memory: &mut [u8], session: Session, input: &[u8], output: &mut [u8]) -> Hand
-    ensures { λ r. ⌜ r .used ≤ length (now (input .entry)) ⌝ }
+    requires { ⌜ (0 < length (now input)) × (longestLine ≤ length (now output)) ⌝ }
+    ensures { λ r. ⌜ HandDrained (now (memory .entry)) session (now (input .entry)) (now (output .entry)) r (now (memory .exit)) ⌝ }
 {
     let mut hand = Hand {
         used: 0,
         again: true,
         on: true,
+        done: true,
         session: session,
     };
     while hand.again {
@@ -99,16 +104,16 @@ fn run_in_hand(memory: &mut [u8], session: Session, input: &[u8], output: &mut [
 }
 
 // The end of the file.
-fn finish(rest: &[u8], session: Session) -> Kept
+fn finish(rest: &[u8], session: Session, output: &mut [u8]) -> Kept
+    requires { ⌜ longestLine ≤ length (now output) ⌝ }
     ensures { λ r. ⌜ r .have ≡ 0 ⌝ }
 {
-    let line = bench_file::last_line(rest);
-    let bytes = line.bytes;
-    let n = octets::size(line);
-    write(&bytes[..n]);
+    let n = bench_file::last_line(rest, output);
+    let done = write(&output[0..n]);
     Kept {
         have: 0,
         on: false,
+        done: done,
         session: session,
     }
 }
@@ -121,15 +126,17 @@ fn run_piece(
     have: usize,
     output: &mut [u8],
 ) -> Kept
-    requires { ⌜ have ≤ length (now input) ⌝ }
-    ensures { λ r. ⌜ r .have ≤ length (now (input .exit)) ⌝ }
+    requires { ⌜ (0 < have) × (have ≤ length (now input)) × (longestLine ≤ length (now output)) ⌝ }
+    ensures { λ r. ⌜ PieceRun (now (memory .entry)) session (now (input .entry)) have (now (output .entry))
+        r (now (memory .exit)) (now (input .exit)) ⌝ }
 {
     let hand = run_in_hand(memory, session, &input[0..have], output);
-    let left = bench_file::keep(input, hand.used, have);
+    let left = framing::keep(input, hand.used, have);
     let after = hand.session;
     Kept {
         have: left,
         on: hand.on,
+        done: hand.done,
         session: after,
     }
 }
@@ -143,7 +150,7 @@ fn read_piece(
     output: &mut [u8],
     kept: Kept,
 ) -> Kept
-    requires { ⌜ kept .have ≤ length (now input) ⌝ }
+    requires { ⌜ (kept .have ≤ length (now input)) × (longestLine ≤ length (now output)) ⌝ }
     ensures { λ r. ⌜ r .have ≤ length (now (input .exit)) ⌝ }
 {
     let have = kept.have;
@@ -154,12 +161,13 @@ fn read_piece(
         return Kept {
             have: 0,
             on: false,
+            done: false,
             session: session,
         };
     }
     let n = io::count(got, &input[have..]);
     if n == 0 {
-        return finish(&input[0..have], session);
+        return finish(&input[0..have], session, output);
     }
     run_piece(memory, session, input, have + n, output)
 }
@@ -172,6 +180,7 @@ pub fn run(fd: i32, name: &[u8]) {
     let mut kept = Kept {
         have: 0,
         on: true,
+        done: true,
         session: unselected(),
     };
     let mut turns = u64::MAX;

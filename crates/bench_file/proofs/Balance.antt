@@ -1,4 +1,4 @@
--- The balance law of bench files: behind every bench file that starts with a finished installation and has no cut one, memory reads as a
+-- The balance law of bench files: behind every bench file that starts with a finished installation and has no torn one, memory reads as a
 -- card whose balance is completed credits less completed debits. Assumes nothing.
 use Prim.Native.Nat.{ℕ, zero, suc}
 use mathlib.Core.Bool.{Bool, true, false, not, _&&_, false≢true}
@@ -10,6 +10,7 @@ use Rattle.octets.specs.Choice.{pick}
 use Rattle.octets.specs.Bytes.{AreBytes, zeros, byteAt, part}
 use Rattle.octets.specs.Words.{wordAt}
 use Rattle.octets.proofs.Ranges.{drop-bytes, part-bytes, zeros-bytes}
+use Rattle.framing.specs.Frames.{headerSize, frameData, dataSize, frameSize, whole}
 use Rattle.card.specs.Layout.{memorySize}
 use Rattle.card.specs.Reading.{readable}
 use Rattle.card.proofs.Cards.{read-readable}
@@ -24,15 +25,15 @@ use Rattle.purse_spec.proofs.Answers.{hands-unselected}
 use Rattle.purse_spec.proofs.Typed.{Typed, typed-next}
 use Rattle.purse_spec.proofs.Readable.{readable-stays}
 use Rattle.purse_spec.proofs.Balance.{Balanced, balance-law}
-use Rattle.bench_file.specs.Records.{headerSize, areaSize, recordSize, whole, callOf, firstCall, closing, leading, fileIn, file}
+use Rattle.bench_file.specs.Kinds.{areaSize, sizeOk, callOf, firstCall, frameless, leading, fileIn, file}
 use Rattle.bench_file.specs.Lines.{Bench, begun, ran, moved, sessionAfter}
-use Rattle.bench_file.specs.Mended.{stateOf, movedAll, NoneCut, mending, missing, mended, StartsInstalled}
+use Rattle.bench_file.specs.WithStartups.{stateOf, movedAll, NoneCut, inserted, missing, withStartups, StartsInstalled}
 
 -- ---- the calls of a file of bytes are of bytes
 
 first-bytes : (s : List ℕ) → AreBytes s → OfBytes (firstCall s)
-unfolding OfBytes firstCall callOf
-first-bytes s f = by (eqb (byteAt s 2) 0x01) (eqb (byteAt s 2) 0x02) (part s headerSize (wordAt s 3)) (part-bytes s headerSize (wordAt s 3) f)
+unfolding OfBytes callOf
+first-bytes s f = by (eqb (byteAt s 2) 0x01) (eqb (byteAt s 2) 0x02) (frameData s) (part-bytes s headerSize (dataSize s) f)
   where
     by : (t u : Bool) (d : List ℕ) → AreBytes d
         → OfBytes (pick t (install (drop 2 d) (wordAt d 0)) (pick u (start (wordAt d 0)) (send (drop 10 d) (part d 2 8) (zeros areaSize) (wordAt d 0))))
@@ -41,12 +42,12 @@ first-bytes s f = by (eqb (byteAt s 2) 0x01) (eqb (byteAt s 2) 0x02) (part s hea
     by false false d g = (drop-bytes 10 d g, part-bytes d 2 8 g)
 
 file-bytes : (k : ℕ) (s : List ℕ) → AreBytes s → AllOfBytes (fileIn k s .calls)
-unfolding AllOfBytes fileIn closing leading
+unfolding AllOfBytes fileIn frameless leading
 file-bytes zero s f = tt
-file-bytes (suc k) s f = by (whole s) (file-bytes k (drop (recordSize s) s) (drop-bytes (recordSize s) s f))
+file-bytes (suc k) s f = by (whole sizeOk s) (file-bytes k (drop (frameSize s) s) (drop-bytes (frameSize s) s f))
   where
-    by : (b : Bool) → AllOfBytes (fileIn k (drop (recordSize s) s) .calls)
-        → AllOfBytes (pick b (leading (firstCall s) (fileIn k (drop (recordSize s) s))) (closing s) .calls)
+    by : (b : Bool) → AllOfBytes (fileIn k (drop (frameSize s) s) .calls)
+        → AllOfBytes (pick b (leading (firstCall s) (fileIn k (drop (frameSize s) s))) (frameless s) .calls)
     by true h = (first-bytes s f, h)
     by false h = tt
 
@@ -106,35 +107,35 @@ beside-next c b st h f o n =
 
 -- the start-up that is put in
 module _ (b : Bench) (st : Situation) (h : Beside b st) (cut : st .cut ≡ true) where
-  finishes : run mending st .answer ≡ 0
-  unfolding run mending
+  finishes : run inserted st .answer ≡ 0
+  unfolding run inserted
   finishes = startup-finishes (st .memory) 0xFFFF (h .reads)
 
-  keeps : run mending st .memory ≡ st .memory
-  unfolding run mending
+  keeps : run inserted st .memory ≡ st .memory
+  unfolding run inserted
   keeps = startup-keeps (st .memory) 0xFFFF
 
-  hands : run mending st .session ≡ unselected
-  unfolding mending isStart isInstall
-  hands = hands-unselected mending st refl
+  hands : run inserted st .session ≡ unselected
+  unfolding inserted isStart isInstall
+  hands = hands-unselected inserted st refl
 
-  mends-cut : next mending st .cut ≡ false
+  inserted-ends-cut : next inserted st .cut ≡ false
   unfolding next
-  mends-cut = rw finishes
+  inserted-ends-cut = rw finishes
 
-  beside-mending : Beside b (next mending st)
-  unfolding next mending OfBytes
-  beside-mending =
+  beside-inserted : Beside b (next inserted st)
+  unfolding next inserted OfBytes
+  beside-inserted =
       record {
         memory = h .memory ∙ sym keeps;
         session = rw cut at (h .session) ∙ rw (finishes, hands);
-        typed = typed-next mending st (h .typed) tt;
+        typed = typed-next inserted st (h .typed) tt;
         reads = rw keeps (h .reads);
       }
 
 -- ---- the list
 
-record Mends (xs : List Call) (b : Bench) (st : Situation) : Type 0 where
+record AsList (xs : List Call) (b : Bench) (st : Situation) : Type 0 where
   pub admissible : Admissible xs st
   pub bytes : AllOfBytes xs
   pub memory : afterCalls xs st .memory ≡ b .memory
@@ -149,8 +150,8 @@ is-missing true starts e = refl
 is-missing false starts e = e
 
 module _ (c : Call) (cs : List Call) (b last : Bench) (st : Situation) (h : Beside b st) (o : OfBytes c) (n : isInstall c ≡ true → ran c b .answer ≡ 7 → ⊥)
-    (rest : (st′ : Situation) → Beside (moved c b) st′ → Mends (mended cs st′) last st′) where
-  one-kept : (st .cut ≡ true → isStart c ≡ true) → Mends (c ∷ mended cs (next c st)) last st
+    (rest : (st′ : Situation) → Beside (moved c b) st′ → AsList (withStartups cs st′) last st′) where
+  one-kept : (st .cut ≡ true → isStart c ≡ true) → AsList (c ∷ withStartups cs (next c st)) last st
   unfolding Admissible AllOfBytes afterCalls
   one-kept f =
       let r = rest (next c st) (beside-next c b st h f o n) in
@@ -160,22 +161,22 @@ module _ (c : Call) (cs : List Call) (b last : Bench) (st : Situation) (h : Besi
         memory = r .memory;
       }
 
-one-mended : (c : Call) (cs : List Call) (b last : Bench) (st : Situation) → Beside b st → OfBytes c → (isInstall c ≡ true → ran c b .answer ≡ 7 → ⊥)
-    → ((st′ : Situation) → Beside (moved c b) st′ → Mends (mended cs st′) last st′) → (t : Bool) → missing c st ≡ t
-    → Mends (pick t (mending ∷ c ∷ mended cs (next c (next mending st))) (c ∷ mended cs (next c st))) last st
-unfolding missing Admissible AllOfBytes afterCalls mending isStart isInstall OfBytes
-one-mended c cs b last st h o n rest false e = one-kept c cs b last st h o n rest (not-missing (st .cut) (isStart c) e)
-one-mended c cs b last st h o n rest true e =
+one-inserted : (c : Call) (cs : List Call) (b last : Bench) (st : Situation) → Beside b st → OfBytes c → (isInstall c ≡ true → ran c b .answer ≡ 7 → ⊥)
+    → ((st′ : Situation) → Beside (moved c b) st′ → AsList (withStartups cs st′) last st′) → (t : Bool) → missing c st ≡ t
+    → AsList (pick t (inserted ∷ c ∷ withStartups cs (next c (next inserted st))) (c ∷ withStartups cs (next c st))) last st
+unfolding missing Admissible AllOfBytes afterCalls inserted isStart isInstall OfBytes
+one-inserted c cs b last st h o n rest false e = one-kept c cs b last st h o n rest (not-missing (st .cut) (isStart c) e)
+one-inserted c cs b last st h o n rest true e =
     let cut = is-missing (st .cut) (isStart c) e in
-    let g = beside-mending b st h cut in
-    let r = one-kept c cs b last (next mending st) g o n rest (λ z. absurd (false≢true (sym (mends-cut b st h cut) ∙ z))) in
+    let g = beside-inserted b st h cut in
+    let r = one-kept c cs b last (next inserted st) g o n rest (λ z. absurd (false≢true (sym (inserted-ends-cut b st h cut) ∙ z))) in
     record { admissible = ((λ z. refl), (λ z. absurd (false≢true z)), r .admissible); bytes = (tt, r .bytes); memory = r .memory }
 
-mends : (cs : List Call) (b : Bench) (st : Situation) → Beside b st → AllOfBytes cs → NoneCut cs b → Mends (mended cs st) (movedAll cs b) st
-unfolding mended Admissible AllOfBytes afterCalls movedAll NoneCut
-mends [] b st h f n = record { admissible = tt; bytes = tt; memory = sym (h .memory) }
-mends (c ∷ cs) b st h f n =
-    one-mended c cs b (movedAll cs (moved c b)) st h (f .0) (n .0) (λ st′ g. mends cs (moved c b) st′ g (f .1) (n .1)) (missing c st) refl
+lists : (cs : List Call) (b : Bench) (st : Situation) → Beside b st → AllOfBytes cs → NoneCut cs b → AsList (withStartups cs st) (movedAll cs b) st
+unfolding withStartups Admissible AllOfBytes afterCalls movedAll NoneCut
+lists [] b st h f n = record { admissible = tt; bytes = tt; memory = sym (h .memory) }
+lists (c ∷ cs) b st h f n =
+    one-inserted c cs b (movedAll cs (moved c b)) st h (f .0) (n .0) (λ st′ g. lists cs (moved c b) st′ g (f .1) (n .1)) (missing c st) refl
 
 -- ---- the law
 
@@ -194,18 +195,18 @@ beside-first c b t f i e =
 
 -- behind calls on any memory and in any session, whatever the ledger held before
 pub calls-balance : (cs : List Call) (b : Bench) (l : Ledger) → Typed (stateOf b) → AllOfBytes cs → StartsInstalled cs b
-    → Balanced (stateOf (movedAll cs b)) (kept (mended cs (stateOf b)) (stateOf b) l)
-unfolding StartsInstalled AllOfBytes movedAll mended missing stateOf ran IsHistory afterCalls
+    → Balanced (stateOf (movedAll cs b)) (kept (withStartups cs (stateOf b)) (stateOf b) l)
+unfolding StartsInstalled AllOfBytes movedAll withStartups missing stateOf ran IsHistory afterCalls
 calls-balance [] b l t f h = absurd h
 calls-balance (c ∷ cs) b l t f h =
     let st = stateOf b in
-    let m = mends cs (moved c b) (next c st) (beside-first c b t (f .0) (h .0) (h .1)) (f .1) (h .2) in
-    let z = balance-law (c ∷ mended cs (next c st)) st l (f .0, m .bytes) (h .0, h .1, m .admissible) in
+    let m = lists cs (moved c b) (next c st) (beside-first c b t (f .0) (h .0) (h .1)) (f .1) (h .2) in
+    let z = balance-law (c ∷ withStartups cs (next c st)) st l (f .0, m .bytes) (h .0, h .1, m .admissible) in
     record { card = z .card; reads = rw (← m .memory) (z .reads); sum = z .sum; limit = z .limit }
 
 -- THE BALANCE LAW of bench files
 pub bench-balance : (s : List ℕ) → AreBytes s → StartsInstalled (file s .calls) begun
-    → Balanced (stateOf (movedAll (file s .calls) begun)) (kept (mended (file s .calls) (stateOf begun)) (stateOf begun) empty)
+    → Balanced (stateOf (movedAll (file s .calls) begun)) (kept (withStartups (file s .calls) (stateOf begun)) (stateOf begun) empty)
 unfolding file begun stateOf
 bench-balance s f h =
     calls-balance (file s .calls) begun empty (record { memory = zeros-bytes memorySize; session = unselected-sized }) (file-bytes (length s) s f) h

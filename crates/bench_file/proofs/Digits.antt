@@ -1,17 +1,17 @@
--- Bytes in hex, byte by byte, and how long lines are. Assumes nothing.
-use Prim.Native.Nat.{ℕ, _+_, _*_, _≤_, _<_}
-use mathlib.Core.List.{List, [], _∷_, _++_, append-assoc, append-nil}
+-- Bytes in hex, two digits a byte, as they are put in an area. Assumes nothing.
+use Prim.Native.Nat.{ℕ, _+_, _*_, _/_, _%_, _≤_, _<_}
+use mathlib.Core.List.{List, [], _∷_, _++_, append-assoc}
 use mathlib.Core.Path.{_≡_, refl, sym, ap, _∙_}
 use native.Mathlib.Numerals.{add-one}
 use native.Mathlib.Omega.{arith}
-use lib.ListN.{length, take, length-append}
+use lib.ListN.{length, take, set, length-append}
 use lib.Seq.{take-suc, take-all, length-take-le}
-use Rattle.octets.specs.declared.buffer.Buffer.{Buffer}
-use Rattle.octets.specs.Bytes.{byteAt}
-use Rattle.octets.specs.Buffers.{capacity, holding, appended}
-use Rattle.octets.proofs.Holding.{appended-holding}
-use Rattle.bench_file.specs.Records.{areaSize}
-use Rattle.bench_file.specs.Lines.{digits, hex, responseLine}
+use Rattle.octets.specs.Bytes.{byteAt, paste}
+use Rattle.octets.proofs.Pasting.{length-paste, paste-sets, paste-next}
+use Rattle.framing.specs.Step.{Puts}
+use Rattle.bench_file.specs.Kinds.{areaSize}
+use Rattle.bench_file.specs.Lines.{digit, hexPair, hex, responseLine}
+use Rattle.bench_file.specs.Stream.{longestLine}
 
 hex-append : (a b : List ℕ) → hex (a ++ b) ≡ hex a ++ hex b
 unfolding hex
@@ -24,41 +24,51 @@ length-hex [] = refl
 length-hex (x ∷ a) = let h = length-hex a in omega arith
 
 -- one byte more
-hex-more : (x : List ℕ) (i : ℕ) → i < length x → hex (take (i + 1) x) ≡ hex (take i x) ++ digits (byteAt x i)
+hex-more : (x : List ℕ) (i : ℕ) → i < length x → hex (take (i + 1) x) ≡ hex (take i x) ++ hexPair (byteAt x i)
 unfolding hex
 hex-more x i h = rw (add-one, take-suc x i 0 h, hex-append)
 
--- what the buffer holds when i bytes are in
-abbrev pub Hexed : Buffer → List ℕ → ℕ → Buffer → Type 0
-Hexed b x i r = (p : List ℕ) → b ≡ holding p → length p + 2 * length x ≤ capacity → r ≡ holding (p ++ hex (take i x))
+-- one digit more behind a text that is put
+set-next : (a t : List ℕ) (at j v : ℕ) → j ≡ at + length t → at + length t + 1 ≤ length a → set (paste a at t) j v ≡ paste a at (t ++ (v ∷ []))
+set-next a t at j v e h =
+    let k : at + length t + length (v ∷ []) ≤ length (paste a at t) = rw length-paste h in
+    let n : at + length t ≤ length a = omega arith in
+    ap (λ (i : ℕ). set (paste a at t) i v) e ∙ paste-sets (paste a at t) (at + length t) (v ∷ []) k ∙ paste-next a at t n (v ∷ []) h
 
-pub hex-start : (b : Buffer) (x : List ℕ) → Hexed b x 0 b
-unfolding hex
-hex-start b x p g l = g ∙ ap holding (sym (append-nil p))
+-- two digits more
+pub hex-step : (a x area : List ℕ) (at i : ℕ) → at + 2 * length x ≤ length a → i < length x → area ≡ paste a at (hex (take i x))
+    → set (set area (at + 2 * i) (digit (byteAt x i / 16))) (at + 2 * i + 1) (digit (byteAt x i % 16)) ≡ paste a at (hex (take (i + 1) x))
+hex-step a x area at i l h e =
+    let t = hex (take i x) in
+    let high = digit (byteAt x i / 16) in
+    let low = digit (byteAt x i % 16) in
+    let n : length t ≡ 2 * i = length-hex (take i x) ∙ rw (length-take-le i x (omega arith)) in
+    let m : length (t ++ (high ∷ [])) ≡ 2 * i + 1 = rw length-append (omega arith) in
+    ap (λ (y : List ℕ). set (set y (at + 2 * i) high) (at + 2 * i + 1) low) e
+    ∙ ap (λ (y : List ℕ). set y (at + 2 * i + 1) low) (set-next a t at (at + 2 * i) high (omega arith) (omega arith))
+    ∙ set-next a (t ++ (high ∷ [])) at (at + 2 * i + 1) low (omega arith) (omega arith)
+    ∙ ap (paste a at) (append-assoc t (high ∷ []) (low ∷ []) ∙ sym (hex-more x i h))
 
-pub hex-step : (b : Buffer) (x : List ℕ) (i : ℕ) (r q : Buffer) → Hexed b x i r → i < length x → q ≡ appended r (digits (byteAt x i)) → Hexed b x (i + 1) q
-hex-step b x i r q f h e p g l =
-    let n : length (hex (take i x)) ≡ 2 * i = length-hex (take i x) ∙ rw (length-take-le i x (omega arith)) in
-    let k : length (p ++ hex (take i x)) + 2 ≤ capacity = rw length-append (omega arith) in
-    e
-    ∙ ap (λ (a : Buffer). appended a (digits (byteAt x i))) (f p g l)
-    ∙ appended-holding (p ++ hex (take i x)) (digits (byteAt x i)) k
-    ∙ ap holding (append-assoc p (hex (take i x)) (digits (byteAt x i)) ∙ ap (λ (y : List ℕ). p ++ y) (sym (hex-more x i h)))
-
-pub hex-done : (b : Buffer) (x : List ℕ) (i : ℕ) (r : Buffer) → Hexed b x i r → length x ≤ i
-    → (p : List ℕ) → b ≡ holding p → length p + 2 * length x ≤ capacity → r ≡ holding (p ++ hex x)
-hex-done b x i r f h p g l = f p g l ∙ rw (take-all i x h)
-
--- the first piece
-pub only : (e r : Buffer) (p : List ℕ) → e ≡ holding [] → r ≡ appended e p → length p ≤ capacity → r ≡ holding p
-only e r p g h l = h ∙ ap (λ (a : Buffer). appended a p) g ∙ appended-holding [] p (omega arith)
+-- all digits
+pub hex-done : (a x area : List ℕ) (at i : ℕ) → length x ≤ i → area ≡ paste a at (hex (take i x)) → area ≡ paste a at (hex x)
+hex-done a x area at i h e = e ∙ rw (take-all i x h)
 
 -- "C 0" and the response, in three pieces
-pub response-held : (x : List ℕ) (front hexed r : Buffer) → length x ≤ areaSize → front ≡ holding (0x43 ∷ 0x20 ∷ 0x30 ∷ 0x20 ∷ [])
-    → ((p : List ℕ) → front ≡ holding p → length p + 2 * length x ≤ capacity → hexed ≡ holding (p ++ hex x))
-    → r ≡ appended hexed (0x0A ∷ []) → r ≡ holding (responseLine x)
+pub response-put : (out x one two three : List ℕ) (at : ℕ) → length x ≤ areaSize → at + longestLine ≤ length out
+    → one ≡ paste out at (0x43 ∷ 0x20 ∷ 0x30 ∷ 0x20 ∷ []) → two ≡ paste one (at + 4) (hex x) → three ≡ paste two (at + 4 + 2 * length x) (0x0A ∷ [])
+    → Puts (responseLine x) out at (5 + 2 * length x) three
 unfolding responseLine
-response-held x front hexed r l e f g =
-    let h = f (0x43 ∷ 0x20 ∷ 0x30 ∷ 0x20 ∷ []) e (omega arith) in
+response-put out x one two three at l h e f g =
+    let front : List ℕ = 0x43 ∷ 0x20 ∷ 0x30 ∷ 0x20 ∷ [] in
     let n = length-hex x in
-    g ∙ ap (λ (a : Buffer). appended a (0x0A ∷ [])) h ∙ appended-holding ((0x43 ∷ 0x20 ∷ 0x30 ∷ 0x20 ∷ []) ++ hex x) (0x0A ∷ []) (omega arith)
+    let m : length (front ++ hex x) ≡ 4 + 2 * length x = rw length-append (omega arith) in
+    let k : at + 4 + 2 * length x ≡ at + length (front ++ hex x) = omega arith in
+    let first : two ≡ paste out at (front ++ hex x) =
+    f ∙ ap (λ (y : List ℕ). paste y (at + 4) (hex x)) e ∙ paste-next out at front (omega arith) (hex x) (omega arith) in (
+      rw (length-append, length-append) (omega arith),
+      g
+          ∙ ap (λ (y : List ℕ). paste y (at + 4 + 2 * length x) (0x0A ∷ [])) first
+          ∙ ap (λ (j : ℕ). paste (paste out at (front ++ hex x)) j (0x0A ∷ [])) k
+          ∙ paste-next out at (front ++ hex x) (omega arith) (0x0A ∷ []) (omega arith)
+          ∙ ap (paste out at) (append-assoc front (hex x) (0x0A ∷ [])),
+    )

@@ -59,9 +59,9 @@ module _ (x : List ℕ) where
   front = 0x43 ∷ 0x20 ∷ 0x30 ∷ 0x20 ∷ []
 
   -- a digit of the response
-  within : (j : ℕ) → j < 2 * length x → byteAt (responseLine x) (4 + j) ≡ byteAt (hex x) j
+  digit-at : (j : ℕ) → j < 2 * length x → byteAt (responseLine x) (4 + j) ≡ byteAt (hex x) j
   unfolding responseLine
-  within j h = getD-append-add front (hex x ++ (0x0A ∷ [])) j 0 ∙ List·getD-append (hex x) (0x0A ∷ []) 0 j (rw length-hex h)
+  digit-at j h = getD-append-add front (hex x ++ (0x0A ∷ [])) j 0 ∙ List·getD-append (hex x) (0x0A ∷ []) 0 j (rw length-hex h)
 
   last : byteAt (responseLine x) (4 + 2 * length x) ≡ 0x0A
   unfolding responseLine
@@ -78,8 +78,8 @@ module _ (x : List ℕ) where
         space = refl;
         answer = refl;
         gap = refl;
-        high = λ i h g. within (2 * i) (omega arith) ∙ hex-high x i h ∙ digit-is (byteAt x i / 16) (omega arith);
-        low = λ i h. ap (λ (j : ℕ). byteAt (responseLine x) j) (next i) ∙ within (suc (2 * i)) (omega arith) ∙ hex-low x i h ∙ digit-is (byteAt x i % 16) (omega arith);
+        high = λ i h g. digit-at (2 * i) (omega arith) ∙ hex-high x i h ∙ digit-is (byteAt x i / 16) (omega arith);
+        low = λ i h. ap (λ (j : ℕ). byteAt (responseLine x) j) (next i) ∙ digit-at (suc (2 * i)) (omega arith) ∙ hex-low x i h ∙ digit-is (byteAt x i % 16) (omega arith);
         feed = last;
       }
     where

@@ -1,8 +1,8 @@
-pub mod Records
+pub mod Kinds
 pub mod Malformed
 pub mod Lines
 pub mod Letters
 pub mod Printed
-pub mod Pieces
-pub mod Turned
-pub mod Mended
+pub mod Stream
+pub mod Step
+pub mod WithStartups

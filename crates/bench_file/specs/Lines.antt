@@ -13,20 +13,20 @@ use Rattle.session.specs.declared.Session.{Session}
 use Rattle.session.specs.Transitions.{unselected}
 use Rattle.purse_spec.specs.Calls.{Run}
 use Rattle.purse_spec.specs.History.{Call, install, start, send, run}
-use Rattle.bench_file.specs.Records.{File, file}
+use Rattle.bench_file.specs.Kinds.{File, file}
 
 -- the digit of a number below 16: 0 to 9, A to F
 unfoldable pub digit : ℕ → ℕ
 digit n = pick (ltb n 10) (0x30 + n) (0x37 + n)
 
 -- the two digits of a byte
-abbrev pub digits : ℕ → List ℕ
-digits x = digit (x / 16) ∷ digit (x % 16) ∷ []
+abbrev pub hexPair : ℕ → List ℕ
+hexPair x = digit (x / 16) ∷ digit (x % 16) ∷ []
 
 -- bytes in upper-case hex
 unfoldable pub hex : List ℕ → List ℕ
 hex [] = []
-hex (x ∷ s) = digits x ++ hex s
+hex (x ∷ s) = hexPair x ++ hex s
 
 -- a letter and the answer, a space between and a line feed behind
 unfoldable pub answerLine : ℕ → ℕ → List ℕ
@@ -82,9 +82,9 @@ unfoldable pub fileLines : File → Bench → List ℕ
 fileLines f b = callLines (f .calls) b ++ pick (f .malformed) malformedLine []
 
 -- the lines of what is to come of a bench file
-unfoldable pub linesFrom : Bench → List ℕ → List ℕ
-linesFrom b s = fileLines (file s) b
+unfoldable pub benchLines : Bench → List ℕ → List ℕ
+benchLines b s = fileLines (file s) b
 
 -- the lines of a whole bench file
 unfoldable pub lines : List ℕ → List ℕ
-lines s = linesFrom begun s
+lines s = benchLines begun s

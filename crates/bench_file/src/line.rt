@@ -1,15 +1,12 @@
-// Lines, put together in a buffer.
+// Lines, put where they stand in the output area; each answers how many bytes it has.
 ghost use mathlib.Core.Path.{_≡_};
-ghost use mathlib.Core.List.{List, _++_};
-ghost use Prim.Native.Nat.{ℕ, _+_, _*_, _≤_, _<_};
+ghost use Prim.Native.Nat.{_+_, _*_, _≤_, _<_};
 ghost use lib.ListN.{length};
-ghost use Rattle.octets.specs.Buffers.{capacity, holding};
-ghost use Rattle.bench_file.specs.Records.{areaSize};
+ghost use Rattle.octets.specs.Bytes.{paste};
+ghost use Rattle.framing.specs.Step.{Puts};
+ghost use Rattle.bench_file.specs.Kinds.{areaSize};
 ghost use Rattle.bench_file.specs.Lines.{digit, hex, answerLine, responseLine, malformedLine};
-use octets::Buffer;
-use octets::append;
-use octets::append_byte;
-use octets::empty;
+ghost use Rattle.bench_file.specs.Stream.{longestLine};
 
 // The digit of a number below 16.
 fn digit(n: u8) -> u8
@@ -22,43 +19,47 @@ fn digit(n: u8) -> u8
     b'A' - 10 + n
 }
 
-// The two digits of each byte, behind what the buffer holds.
-fn append_hex(b: Buffer, x: &[u8]) -> Buffer
-    ensures { λ r. ⌜ ((p : List ℕ) → b ≡ holding p → length p + 2 * length (now (x .entry)) ≤ capacity → r ≡ holding (p ++ hex (now (x .entry)))) ⌝ }
+// The two digits of each byte, from an index on.
+fn put_hex(output: &mut [u8], at: usize, x: &[u8])
+    requires { ⌜ at + 2 * length (now x) ≤ length (now output) ⌝ }
+    ensures { λ _. ⌜ now (output .exit) ≡ paste (now (output .entry)) at (hex (now (x .entry))) ⌝ }
 {
-    let mut r = b;
     let mut i = 0;
     while i < x.len() {
-        let piece = [digit(x[i] / 16), digit(x[i] % 16)];
-        r = append(r, &piece);
+        output[at + 2 * i] = digit(x[i] / 16);
+        output[at + 2 * i + 1] = digit(x[i] % 16);
         i += 1;
     }
-    r
 }
 
 // A letter and an answer of 01's list.
-pub fn answer_line(letter: u8, answer: u8) -> Buffer
+pub fn answer_line(output: &mut [u8], at: usize, letter: u8, answer: u8) -> usize
     requires { ⌜ answer ≤ 8 ⌝ }
-    ensures { λ r. ⌜ r ≡ holding (answerLine letter answer) ⌝ }
+    ensures { λ r. ⌜ Puts (answerLine letter answer) (now (output .entry)) at r (now (output .exit)) ⌝ }
 {
-    let piece = [letter, b' ', b'0' + answer, b'\n'];
-    append(empty(), &piece)
+    let line = [letter, b' ', b'0' + answer, b'\n'];
+    octets::paste(output, at, &line);
+    4
 }
 
 // Answer 0 of a command, and its response.
-pub fn response_line(x: &[u8]) -> Buffer
-    requires { ⌜ length (now x) ≤ areaSize ⌝ }
-    ensures { λ r. ⌜ r ≡ holding (responseLine (now (x .entry))) ⌝ }
+pub fn response_line(output: &mut [u8], at: usize, x: &[u8]) -> usize
+    requires { ⌜ (length (now x) ≤ areaSize) × (at + longestLine ≤ length (now output)) ⌝ }
+    ensures { λ r. ⌜ Puts (responseLine (now (x .entry))) (now (output .entry)) at r (now (output .exit)) ⌝ }
 {
-    let piece = [b'C', b' ', b'0', b' '];
-    let front = append(empty(), &piece);
-    append_byte(append_hex(front, x), b'\n')
+    let front = [b'C', b' ', b'0', b' '];
+    octets::paste(output, at, &front);
+    put_hex(output, at + 4, x);
+    let feed = [b'\n'];
+    octets::paste(output, at + 4 + 2 * x.len(), &feed);
+    5 + 2 * x.len()
 }
 
 // X.
-pub fn malformed_line() -> Buffer
-    ensures { λ r. ⌜ r ≡ holding malformedLine ⌝ }
+pub fn malformed_line(output: &mut [u8], at: usize) -> usize
+    ensures { λ r. ⌜ Puts malformedLine (now (output .entry)) at r (now (output .exit)) ⌝ }
 {
-    let piece = [b'X', b'\n'];
-    append(empty(), &piece)
+    let line = [b'X', b'\n'];
+    octets::paste(output, at, &line);
+    2
 }

@@ -1,31 +1,29 @@
-// One turn: the whole records at the front of the bytes in hand are run, and their lines written.
+// One turn: the whole frames that lead the bytes in hand are run, one a step, and their lines gathered in the output area. And the end of
+// the file.
 ghost use mathlib.Core.Bool.{true, _&&_};
 ghost use mathlib.Core.Path.{_≡_};
 ghost use Prim.Native.Nat.{_+_, _≤_};
 ghost use lib.Dec.{leb};
 ghost use lib.ListN.{length, drop};
-ghost use Rattle.octets.specs.Bytes.{paste};
-ghost use Rattle.octets.specs.Buffers.{content};
-ghost use Rattle.bench_file.specs.Records.{whole};
-ghost use Rattle.bench_file.specs.Pieces.{longestLine};
-ghost use Rattle.bench_file.specs.Turned.{Stepped, Stretches, Turns};
-use crate::front::record_size;
-use crate::front::spoilt;
-use crate::front::whole;
+ghost use Rattle.framing.specs.Frames.{whole};
+ghost use Rattle.framing.specs.Formats.{taken, lastLine};
+ghost use Rattle.framing.specs.Step.{Puts};
+ghost use Rattle.bench_file.specs.Kinds.{sizeOk};
+ghost use Rattle.bench_file.specs.Lines.{Bench};
+ghost use Rattle.bench_file.specs.Stream.{longestLine, bench};
+ghost use Rattle.bench_file.specs.Step.{StepRuns, BatchRuns, TurnRuns};
+use crate::frame::run_frame;
+use crate::front::front_of;
 use crate::line::malformed_line;
-use crate::record::run_record;
-use octets::Buffer;
+use framing::Next;
+use framing::frame_size;
+use framing::has_room;
+use framing::is_frame;
+use framing::is_malformed;
 use session::Session;
 
 // The longest line: "C 0", a space, two digits a byte of the response area, a line feed.
 pub const LONGEST_LINE: usize = 69;
-
-// How it goes on: the output area is to be emptied first; more bytes are awaited; X is written, and that is the end.
-pub enum Next {
-    Full,
-    More,
-    Over,
-}
 
 // How many bytes were used and written, how it goes on, and the session behind the last call.
 pub struct Turned {
@@ -36,37 +34,24 @@ pub struct Turned {
 }
 
 // How many bytes were used and written so far, and the session behind the last call.
-pub struct Stretched {
+pub struct Batched {
     pub used: usize,
     pub written: usize,
     pub session: Session,
 }
 
-// What the buffer holds, at an index of the output; how many bytes they are.
-fn put(output: &mut [u8], at: usize, b: Buffer) -> usize
-    ensures { λ r. ⌜ (r ≡ length (content b)) × (now (output .exit) ≡ paste (now (output .entry)) at (content b)) ⌝ }
-{
-    let bytes = b.bytes;
-    let n = octets::size(b);
-    octets::paste(output, at, &bytes[..n]);
-    n
-}
-
-// Whether the next record is run: its line has room, and it is there.
+// Whether the next frame is run, whatever the bench carries: its line has room, and it is there.
 fn goes_on(input: &[u8], used: usize, room: usize, written: usize) -> bool
     requires { ⌜ used ≤ length (now input) ⌝ }
-    ensures { λ r. ⌜ r ≡ (leb (written + longestLine) room && whole (drop used (now (input .entry)))) ⌝ }
+    ensures { λ r. ⌜ ((b : Bench) → r ≡ (leb (written + longestLine) room && taken bench b (drop used (now (input .entry))))) ⌝ }
 {
-    if room < LONGEST_LINE {
+    if !has_room(written, LONGEST_LINE, room) {
         return false;
     }
-    if room - LONGEST_LINE < written {
-        return false;
-    }
-    whole(&input[used..])
+    is_frame(front_of(&input[used..]))
 }
 
-// One record more.
+// One frame more.
 fn step(
     memory: &mut [u8],
     session: Session,
@@ -74,28 +59,28 @@ fn step(
     used: usize,
     output: &mut [u8],
     written: usize,
-) -> Stretched
-    requires { ⌜ (whole (drop used (now input)) ≡ true) × (written + longestLine ≤ length (now output)) ⌝ }
-    ensures { λ r. ⌜ Stepped (now (memory .entry)) session (now (input .entry)) used (now (output .entry)) written r (now (memory .exit)) (now (output .exit)) ⌝ }
+) -> Batched
+    requires { ⌜ (whole sizeOk (drop used (now input)) ≡ true) × (written + longestLine ≤ length (now output)) ⌝ }
+    ensures { λ r. ⌜ StepRuns (now (memory .entry)) session (now (input .entry)) used (now (output .entry)) written
+        r (now (memory .exit)) (now (output .exit)) ⌝ }
 {
     let rest = &input[used..];
-    let size = record_size(rest);
-    let printed = run_record(memory, session, rest);
-    let line = printed.line;
+    let size = frame_size(rest);
+    let printed = run_frame(memory, session, rest, output, written);
     let after = printed.session;
-    let n = put(output, written, line);
-    Stretched {
+    Batched {
         used: used + size,
-        written: written + n,
+        written: written + printed.written,
         session: after,
     }
 }
 
-// All whole records at the front, as far as their lines have room.
-fn stretch(memory: &mut [u8], session: Session, input: &[u8], output: &mut [u8]) -> Stretched
-    ensures { λ r. ⌜ Stretches (now (memory .entry)) session (now (input .entry)) (now (output .entry)) r (now (memory .exit)) (now (output .exit)) ⌝ }
+// All whole frames that lead, as far as their lines have room.
+fn batch(memory: &mut [u8], session: Session, input: &[u8], output: &mut [u8]) -> Batched
+    ensures { λ r. ⌜ BatchRuns (now (memory .entry)) session (now (input .entry)) (now (output .entry))
+        r (now (memory .exit)) (now (output .exit)) ⌝ }
 {
-    let mut at = Stretched {
+    let mut at = Batched {
         used: 0,
         written: 0,
         session: session,
@@ -108,9 +93,10 @@ fn stretch(memory: &mut [u8], session: Session, input: &[u8], output: &mut [u8])
 
 // One turn on the bytes in hand.
 pub fn turn(memory: &mut [u8], session: Session, input: &[u8], output: &mut [u8]) -> Turned
-    ensures { λ r. ⌜ Turns (now (memory .entry)) session (now (input .entry)) (now (output .entry)) r (now (memory .exit)) (now (output .exit)) ⌝ }
+    ensures { λ r. ⌜ TurnRuns (now (memory .entry)) session (now (input .entry)) (now (output .entry))
+        r (now (memory .exit)) (now (output .exit)) ⌝ }
 {
-    let done = stretch(memory, session, input, output);
+    let done = batch(memory, session, input, output);
     let used = done.used;
     let written = done.written;
     let after = done.session;
@@ -122,8 +108,8 @@ pub fn turn(memory: &mut [u8], session: Session, input: &[u8], output: &mut [u8]
             session: after,
         };
     }
-    if spoilt(&input[used..]) {
-        let n = put(output, written, malformed_line());
+    if is_malformed(front_of(&input[used..])) {
+        let n = malformed_line(output, written);
         return Turned {
             used: used,
             written: written + n,
@@ -137,4 +123,14 @@ pub fn turn(memory: &mut [u8], session: Session, input: &[u8], output: &mut [u8]
         next: Next::More,
         session: after,
     }
+}
+
+// The line at the end of the file, whatever the bench carries: X where bytes are left.
+pub fn last_line(rest: &[u8], output: &mut [u8]) -> usize
+    ensures { λ r. ⌜ ((b : Bench) → Puts (lastLine bench b (now (rest .entry))) (now (output .entry)) 0 r (now (output .exit))) ⌝ }
+{
+    if rest.len() == 0 {
+        return 0;
+    }
+    malformed_line(output, 0)
 }

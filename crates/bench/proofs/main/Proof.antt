@@ -1,3 +1,4 @@
+-- `main`: one turn of the loop a file that is named. Assumes nothing.
 use Prim.Native.Nat.{_-_}
 use borrow.Author.Needs.{needs}
 use Rattle.bench.proofs.main.Statement.{statement}

@@ -1,6 +1,7 @@
-use borrow.Author.Tests.{not-false, ne-eqb}
+-- `again`: a row for lines that are not written, and one arm a way to go on. Assumes nothing.
+use borrow.Author.Tests.{not-false}
 use Rattle.octets.proofs.Rules.{rules-not}
-use Rattle.bench_file.specs.Pieces.{isOver, isFull}
+use Rattle.framing.specs.Stream.{isOver, isFull}
 use Rattle.bench.specs.Going.{turnsAgain}
 use borrow.Author.Needs.{needs}
 use Rattle.bench.proofs.stream.again.Statement.{statement}
@@ -9,10 +10,6 @@ use Rattle.bench.proofs.stream.again.Tie as tie
 returns : tie.Need-returns
 unfolding turnsAgain
 returns c = search rules-not depth 24
-
-returns-2 : tie.Need-returns-2
-unfolding turnsAgain
-returns-2 c = search rules-not depth 24
 
 enum-told : tie.Need-enum-told
 enum-told c = search needs
@@ -23,19 +20,18 @@ enum-told-2 c = search needs
 enum-told-3 : tie.Need-enum-told-3
 enum-told-3 c = search needs
 
+returns-2 : tie.Need-returns-2
+unfolding turnsAgain isFull isOver
+returns-2 c = rw (c .enum-told .given .1, not-false (c .before .before .before .args .done) (c .before .before .if1 .left))
+
 returns-3 : tie.Need-returns-3
 unfolding turnsAgain isFull isOver
-returns-3 c = rw (c .enum-told .given .1, not-false (c .before .before .before .before .args .done) (c .before .before .before .if1 .left), ne-eqb _ _ (c .before .before .if2 .left))
+returns-3 c = rw (c .enum-told2 .given .1, not-false (c .before .before .before .args .done) (c .before .before .if1 .left))
 
 returns-4 : tie.Need-returns-4
 unfolding turnsAgain isFull isOver
-returns-4 c = rw (c .enum-told2 .given .1, not-false (c .before .before .before .before .args .done) (c .before .before .before .if1 .left), ne-eqb _ _ (c .before .before .if2 .left))
-
-returns-5 : tie.Need-returns-5
-unfolding turnsAgain isFull isOver
-returns-5 c = rw (c .enum-told3 .given .1, not-false (c .before .before .before .before .args .done) (c .before .before .before .if1 .left), ne-eqb _ _ (c .before .before .if2 .left))
+returns-4 c = rw (c .enum-told3 .given .1, not-false (c .before .before .before .args .done) (c .before .before .if1 .left))
 
 pub again-spec : {M : Type 1} → statement M
 again-spec =
-    tie.close
-    (tie.spec returns returns-2 enum-told enum-told-2 enum-told-3 returns-3 returns-4 returns-5)
+    tie.close (tie.spec returns enum-told enum-told-2 enum-told-3 returns-2 returns-3 returns-4)

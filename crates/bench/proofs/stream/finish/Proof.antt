@@ -1,6 +1,5 @@
-use native.Mathlib.Omega.{arith}
-use lib.ListN.{length-take}
-use Rattle.octets.proofs.Holding.{content-front}
+-- `finish`: the last line lies in the output area. Assumes nothing.
+use Rattle.bench.proofs.Hands.{last-within}
 use borrow.Author.Needs.{needs}
 use Rattle.bench.proofs.stream.finish.Statement.{statement}
 use Rattle.bench.proofs.stream.finish.Tie as tie
@@ -8,19 +7,20 @@ use Rattle.bench.proofs.stream.finish.Tie as tie
 last-line-requires : tie.Need-last-line-requires
 last-line-requires c κs = search needs
 
-size-requires : tie.Need-size-requires
-size-requires c κs = search needs
+sub-write : tie.Need-sub-write
+sub-write c = search needs
 
-array-share-prefix-bytes : tie.Need-array-share-prefix-bytes
-array-share-prefix-bytes c =
-    let b = c .before .before .last-line .result in
-    omega (arith, c .size .ensures, length-take (b .len) (b .bytes))
+part-write-start : tie.Need-part-write-start
+part-write-start c = search needs
 
-slice-aggregate-write : tie.Need-slice-aggregate-write
-slice-aggregate-write c = rw (c .before .size .ensures, content-front)
+part-write-end : tie.Need-part-write-end
+part-write-end c = last-within _ _ _ _ (c .before .before .before .before .before .before .before .pre) (c .before .before .before .last-line .ensures)
 
 write-requires : tie.Need-write-requires
 write-requires c κs = search needs
+
+same-length : tie.Need-same-length
+same-length c = search needs
 
 returns : tie.Need-returns
 returns c = search needs
@@ -30,8 +30,9 @@ finish-spec =
     tie.close
     (tie.spec
     last-line-requires
-    size-requires
-    array-share-prefix-bytes
-    slice-aggregate-write
+    sub-write
+    part-write-start
+    part-write-end
     write-requires
+    same-length
     returns)

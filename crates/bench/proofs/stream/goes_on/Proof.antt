@@ -1,6 +1,7 @@
+-- `goes_on`: a row for lines that are not written, and one arm a way to go on. Assumes nothing.
 use borrow.Author.Tests.{not-false}
 use Rattle.octets.proofs.Rules.{rules-not}
-use Rattle.bench_file.specs.Pieces.{isOver, isFull}
+use Rattle.framing.specs.Stream.{isOver, isFull}
 use Rattle.bench.specs.Going.{fileGoesOn}
 use borrow.Author.Needs.{needs}
 use Rattle.bench.proofs.stream.goes_on.Statement.{statement}

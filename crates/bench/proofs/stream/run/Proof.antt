@@ -1,3 +1,4 @@
+-- `run`: the loop keeps the lengths of its areas, and what is in hand within them. Assumes nothing.
 use Prim.Native.Nat.{_≤_}
 use mathlib.Core.Path.{_≡_}
 use lib.ListN.{length}

@@ -1,5 +1,5 @@
-use Prim.Native.Nat.{_-_}
-use Rattle.bench.proofs.Hands.{kept-within}
+-- `run_piece`: the turns on what is in hand, and what they leave moved to the front. Assumes nothing.
+use Rattle.bench.proofs.Hands.{some-lent, piece-run}
 use borrow.Author.Needs.{needs}
 use Rattle.bench.proofs.stream.run_piece.Statement.{statement}
 use Rattle.bench.proofs.stream.run_piece.Tie as tie
@@ -14,7 +14,9 @@ part-run-in-hand-end : tie.Need-part-run-in-hand-end
 part-run-in-hand-end c = search needs
 
 run-in-hand-requires : tie.Need-run-in-hand-requires
-run-in-hand-requires c κs = search needs
+run-in-hand-requires c κs =
+    let s = c .before .before .before .before .before .before .before in
+    (some-lent (s .args .input .now) (s .args .have) (s .pre .0) (s .pre .1), s .pre .2)
 
 keep-requires : tie.Need-keep-requires
 keep-requires c κs = search needs
@@ -29,11 +31,7 @@ same-length-3 : tie.Need-same-length-3
 same-length-3 c = search needs
 
 returns : tie.Need-returns
-returns c =
-    let k = c .before .before .before in
-    let h = k .before .before .before .before .before .before in
-    let s = h .before .before .before .before .before .before .before .before in
-    kept-within _ _ (h .run-in-hand .result .used) (s .args .have - h .run-in-hand .result .used) _ (k .keep .ensures)
+returns c = piece-run _ _ _ _ _ _ _ (c .before .before .before .before .before .before .before .before .before .before .before .before .before .before .before .before .before .pre .1) (c .before .before .before .before .before .before .before .before .before .run-in-hand .ensures) _ _ (c .before .before .before .keep .ensures)
 
 pub run-piece-spec : {M : Type 1} → statement M
 run-piece-spec =

@@ -1,8 +1,7 @@
-use mathlib.Core.Path.{sym, _∙_}
+-- `turn`: the library's turn on the bytes that are lent. Assumes nothing.
 use native.Mathlib.Omega.{arith}
-use Rattle.bench_file.proofs.Turning.{turn-within}
-use Rattle.bench.proofs.Hands.{used-within}
-use Rattle.bench.proofs.Going.{again-used}
+use Rattle.framing.proofs.Lent.{lent-end}
+use Rattle.bench.proofs.Hands.{turn-within, used-within, hand-turned}
 use borrow.Author.Needs.{needs}
 use Rattle.bench.proofs.stream.turn.Statement.{statement}
 use Rattle.bench.proofs.stream.turn.Tie as tie
@@ -33,9 +32,8 @@ write-requires c κs = search needs
 
 add-t15 : tie.Need-add-t15
 add-t15 c =
-    let t = c .before .before .before .before .before .before .before .before in
-    let s = t .before .before .before .before .before .before .before in
-    omega (arith, s .good .1 .1 .0 .0, used-within (s .args .input .now) (s .args .used) (t .turn .result .used) (s .pre) (turn-within _ _ _ _ _ _ _ (t .turn .ensures) .0))
+    let s = c .before .before .before .before .before .before .before .before .before .before .before .before .before .before .before in
+    omega (arith, s .good .1 .1 .0 .0, used-within (s .args .input .now) (s .args .used) (c .before .before .before .before .before .before .before .before .turn .result .used) (s .pre) (turn-within _ _ _ _ _ _ _ (c .before .before .before .before .before .before .before .before .turn .ensures) .0))
 
 again-requires : tie.Need-again-requires
 again-requires c κs = search needs
@@ -51,9 +49,8 @@ same-length-2 c = search needs
 
 returns : tie.Need-returns
 returns c =
-    let t = c .before .before .before .before .before .before .before .before .before .before in
-    let s = t .before .before .before .before .before .before .before in
-    (used-within (s .args .input .now) (s .args .used) (t .turn .result .used) (s .pre) (turn-within _ _ _ _ _ _ _ (t .turn .ensures) .0), λ e. let p = again-used _ _ _ (sym (c .before .again .ensures) ∙ e) in omega arith)
+    let a = c .before .before .before .before .before .before .before .before .before .before .before .before .before .before .before .before .before .args in
+    hand-turned _ _ (a .input .now) (a .used) _ _ (lent-end (a .input .now) (a .used)) _ _ _ (c .before .before .before .before .before .before .before .before .before .before .turn .ensures) _ _ _ (c .before .again .ensures) (c .goes-on .ensures)
 
 pub turn-spec : {M : Type 1} → statement M
 turn-spec =

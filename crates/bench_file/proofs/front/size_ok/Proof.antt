@@ -1,6 +1,7 @@
+-- `size_ok`: one row a kind. Assumes nothing.
 use borrow.Author.Tests.{le-leb, ne-eqb}
 use Rattle.octets.proofs.Rules.{rules}
-use Rattle.bench_file.specs.Records.{mostData, sizeOk}
+use Rattle.bench_file.specs.Kinds.{mostData, sizeOk}
 use Rattle.bench_file.proofs.front.size_ok.Statement.{statement}
 use Rattle.bench_file.proofs.front.size_ok.Tie as tie
 

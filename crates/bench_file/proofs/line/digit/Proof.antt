@@ -1,3 +1,4 @@
+-- `digit`: a row for figures and one for letters. Assumes nothing.
 use Rattle.octets.proofs.Rules.{rules}
 use Rattle.bench_file.specs.Lines.{digit}
 use borrow.Author.Needs.{needs}

@@ -1,15 +1,20 @@
+-- `turn`: behind a batch a line has no room, or what follows is malformed, or more bytes are awaited. Assumes nothing.
 use native.Mathlib.Omega.{arith}
-use Rattle.bench_file.proofs.Lent.{lent-end}
-use Rattle.bench_file.proofs.Turning.{done-used, done-written, turn-full, turn-more, turn-over, over-written}
+use Rattle.framing.proofs.Lent.{lent-end}
+use Rattle.framing.proofs.Turning.{done-used, done-written, turn-full, turn-more, turn-over, over-written}
+use Rattle.bench_file.specs.Stream.{bench}
+use Rattle.bench_file.specs.Lines.{benchOf}
+use Rattle.bench_file.proofs.Format.{refused-by}
+use Rattle.bench_file.proofs.LineSizes.{fitting}
 use borrow.Author.Needs.{needs}
 use Rattle.bench_file.proofs.turns.turn.Statement.{statement}
 use Rattle.bench_file.proofs.turns.turn.Tie as tie
 
-stretch-requires : tie.Need-stretch-requires
-stretch-requires c κs = search needs
+batch-requires : tie.Need-batch-requires
+batch-requires c κs = search needs
 
 sub-if1 : tie.Need-sub-if1
-sub-if1 c = done-written _ _ _ _ _ _ _ (c .before .before .before .before .before .stretch .ensures)
+sub-if1 c = done-written bench fitting _ _ _ tt _ _ _ _ (c .before .before .before .before .before .batch .ensures)
 
 same-length : tie.Need-same-length
 same-length c = search needs
@@ -18,33 +23,31 @@ same-length-2 : tie.Need-same-length-2
 same-length-2 c = search needs
 
 returns : tie.Need-returns
-returns c = turn-full _ _ _ _ _ _ _ (c .before .before .before .before .before .before .stretch .ensures) (c .if1 .taken)
+returns c = turn-full bench fitting _ _ _ tt _ _ _ _ (c .before .before .before .before .before .before .batch .ensures) (c .if1 .taken)
 
-sub-spoilt : tie.Need-sub-spoilt
-sub-spoilt c = done-used _ _ _ _ _ _ _ (c .before .before .before .before .before .before .stretch .ensures)
+sub-front-of : tie.Need-sub-front-of
+sub-front-of c = done-used bench fitting _ _ _ tt _ _ _ _ (c .before .before .before .before .before .before .batch .ensures)
 
-part-spoilt-start : tie.Need-part-spoilt-start
-part-spoilt-start c = done-used _ _ _ _ _ _ _ (c .before .before .before .before .before .before .stretch .ensures)
+part-front-of-start : tie.Need-part-front-of-start
+part-front-of-start c = done-used bench fitting _ _ _ tt _ _ _ _ (c .before .before .before .before .before .before .batch .ensures)
 
-part-spoilt-end : tie.Need-part-spoilt-end
-part-spoilt-end c = search needs
+part-front-of-end : tie.Need-part-front-of-end
+part-front-of-end c = search needs
 
-spoilt-requires : tie.Need-spoilt-requires
-spoilt-requires c κs = search needs
+front-of-requires : tie.Need-front-of-requires
+front-of-requires c κs = search needs
+
+is-malformed-requires : tie.Need-is-malformed-requires
+is-malformed-requires c κs = search needs
 
 malformed-line-requires : tie.Need-malformed-line-requires
 malformed-line-requires c κs = search needs
 
-put-requires : tie.Need-put-requires
-put-requires c κs = search needs
-
 add-t25 : tie.Need-add-t25
 add-t25 c =
-    let i = c .before .before .before .before .before .before .before .before in
-    let d = i .before .before .before .before .before .before in
-    let s = d .before .before .before .before .before .before in
-    let a = s .args in
-    omega (arith, s .good .1 .1 .1 .0 .0, over-written (a .memory .now) (a .session) (a .input .now) (a .output .now) (d .stretch .result) _ _ (d .stretch .ensures) (i .if1 .left) _ (c .before .before .before .malformed-line .ensures) (c .before .before .put .result) (c .before .before .put .ensures .0))
+    let h = refused-by (benchOf (c .before .before .before .before .before .before .before .before .before .before .before .before .before .before .batch .last .0) (c .before .before .before .before .before .before .before .before .before .before .before .before .before .before .batch .result .session)) (c .before .before .before .before .before .before .before .before .before .before .before .before .before .before .before .before .before .before .before .before .args .input .now) _ (c .before .before .before .before .before .before .before .before .before .before .before .before .before .before .batch .result .used) (lent-end (c .before .before .before .before .before .before .before .before .before .before .before .before .before .before .before .before .before .before .before .before .args .input .now) (c .before .before .before .before .before .before .before .before .before .before .before .before .before .before .batch .result .used)) _ (c .before .before .before .before .before .before .front-of .ensures) _ (c .before .before .before .before .before .is-malformed .ensures) in
+    let o = over-written bench fitting _ _ _ tt _ _ _ _ (c .before .before .before .before .before .before .before .before .before .before .before .before .before .before .batch .ensures) (c .before .before .before .before .before .before .before .before .if1 .left) _ h (c .before .before .malformed-line .result) _ (c .before .before .malformed-line .ensures) in
+    omega arith
 
 same-length-3 : tie.Need-same-length-3
 same-length-3 c = search needs
@@ -54,10 +57,8 @@ same-length-4 c = search needs
 
 returns-2 : tie.Need-returns-2
 returns-2 c =
-    let v = c .before .before .before .before .before in
-    let i = v .before .before .before in
-    let d = i .before .before .before .before .before .before in
-    turn-over _ _ _ _ _ _ _ (d .stretch .ensures) (i .if1 .left) _ _ (lent-end (d .before .before .before .before .before .before .args .input .now) (d .stretch .result .used)) (v .before .spoilt .ensures) (v .if2 .taken) _ (c .before .before .before .malformed-line .ensures) _ _ (c .before .before .put .ensures)
+    let h = refused-by (benchOf (c .before .before .before .before .before .before .before .before .before .before .before .before .before .before .batch .last .0) (c .before .before .before .before .before .before .before .before .before .before .before .before .before .before .batch .result .session)) (c .before .before .before .before .before .before .before .before .before .before .before .before .before .before .before .before .before .before .before .before .args .input .now) _ (c .before .before .before .before .before .before .before .before .before .before .before .before .before .before .batch .result .used) (lent-end (c .before .before .before .before .before .before .before .before .before .before .before .before .before .before .before .before .before .before .before .before .args .input .now) (c .before .before .before .before .before .before .before .before .before .before .before .before .before .before .batch .result .used)) _ (c .before .before .before .before .before .before .front-of .ensures) _ (c .before .before .before .before .before .is-malformed .ensures) in
+    turn-over bench fitting _ _ _ tt _ _ _ _ (c .before .before .before .before .before .before .before .before .before .before .before .before .before .before .batch .ensures) (c .before .before .before .before .before .before .before .before .if1 .left) _ h _ _ (c .before .before .malformed-line .ensures) (c .before .before .before .before .if2 .taken)
 
 same-length-5 : tie.Need-same-length-5
 same-length-5 c = search needs
@@ -67,25 +68,24 @@ same-length-6 c = search needs
 
 returns-3 : tie.Need-returns-3
 returns-3 c =
-    let i = c .before .before .before in
-    let d = i .before .before .before .before .before .before in
-    turn-more _ _ _ _ _ _ _ (d .stretch .ensures) (i .if1 .left) _ _ (lent-end (d .before .before .before .before .before .before .args .input .now) (d .stretch .result .used)) (c .before .spoilt .ensures) (c .if2 .left)
+    let h = refused-by (benchOf (c .before .before .before .before .before .before .before .before .before .before .batch .last .0) (c .before .before .before .before .before .before .before .before .before .before .batch .result .session)) (c .before .before .before .before .before .before .before .before .before .before .before .before .before .before .before .before .args .input .now) _ (c .before .before .before .before .before .before .before .before .before .before .batch .result .used) (lent-end (c .before .before .before .before .before .before .before .before .before .before .before .before .before .before .before .before .args .input .now) (c .before .before .before .before .before .before .before .before .before .before .batch .result .used)) _ (c .before .before .front-of .ensures) _ (c .before .is-malformed .ensures) in
+    turn-more bench fitting _ _ _ tt _ _ _ _ (c .before .before .before .before .before .before .before .before .before .before .batch .ensures) (c .before .before .before .before .if1 .left) _ h (c .if2 .left)
 
 pub turn-spec : {M : Type 1} → statement M
 turn-spec =
     tie.close
     (tie.spec
-    stretch-requires
+    batch-requires
     sub-if1
     same-length
     same-length-2
     returns
-    sub-spoilt
-    part-spoilt-start
-    part-spoilt-end
-    spoilt-requires
+    sub-front-of
+    part-front-of-start
+    part-front-of-end
+    front-of-requires
+    is-malformed-requires
     malformed-line-requires
-    put-requires
     add-t25
     same-length-3
     same-length-4

@@ -1,0 +1,14 @@
+pub mod Fronts
+pub mod Headers
+pub mod Files
+pub mod Made
+pub mod Ends
+pub mod StreamLines
+pub mod PieceLines
+pub mod Draining
+pub mod Silence
+pub mod Batching
+pub mod Turning
+pub mod Keeping
+pub mod Putting
+pub mod Lent
