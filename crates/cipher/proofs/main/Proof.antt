@@ -4,7 +4,6 @@ use lib.ListN.{length}
 use borrow.Author.Needs.{needs}
 use Rattle.cipher.proofs.main.Statement.{statement}
 use Rattle.cipher.proofs.main.Tie as tie
-use Rattle.cipher.proofs.main.Reads as reads
 
 abbrev Inv-loop : tie.InvT-loop
 Inv-loop line₀ begun₀ turns₀ line begun turns = length line ≡ 4096

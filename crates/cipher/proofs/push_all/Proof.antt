@@ -5,7 +5,6 @@ use Prim.Native.Nat.{_≤_, _-_}
 use borrow.Author.Needs.{needs}
 use Rattle.cipher.proofs.push_all.Statement.{statement}
 use Rattle.cipher.proofs.push_all.Tie as tie
-use Rattle.cipher.proofs.push_all.Reads as reads
 
 abbrev Inv-loop : tie.InvT-loop
 Inv-loop bytes line₀ used now₀ i₀ line now i = (length line ≡ length line₀) × (i ≤ length bytes)

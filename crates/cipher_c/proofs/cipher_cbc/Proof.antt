@@ -5,7 +5,6 @@ use Rattle.octets.proofs.Rules.{rules}
 use borrow.Author.Needs.{needs}
 use Rattle.cipher_c.proofs.cipher_cbc.Statement.{statement}
 use Rattle.cipher_c.proofs.cipher_cbc.Tie as tie
-use Rattle.cipher_c.proofs.cipher_cbc.Reads as reads
 
 returns : tie.Need-returns
 unfolding cbcCall

@@ -5,7 +5,6 @@ use Rattle.octets.proofs.Rules.{rules}
 use borrow.Author.Needs.{needs}
 use Rattle.cipher_c.proofs.cipher_signature.Statement.{statement}
 use Rattle.cipher_c.proofs.cipher_signature.Tie as tie
-use Rattle.cipher_c.proofs.cipher_signature.Reads as reads
 
 returns : tie.Need-returns
 unfolding signatureCall

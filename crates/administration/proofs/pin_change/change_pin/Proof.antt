@@ -8,77 +8,52 @@ use borrow.Author.Tests.{lt-ltb, le-ltb, not-true, not-false}
 use borrow.Author.Needs.{needs}
 use Rattle.administration.proofs.pin_change.change_pin.Statement.{statement}
 use Rattle.administration.proofs.pin_change.change_pin.Tie as tie
-use Rattle.administration.proofs.pin_change.change_pin.Reads as reads
-use Rattle.administration.proofs.pin_change.change_pin.Lts as lts
-use Rattle.administration.proofs.answer.granted.Reads as granted-reads
-use Rattle.card.proofs.well_formed.Reads as well-formed-reads
-use Rattle.channel.proofs.received8.Reads as received8-reads
-use Rattle.objects.proofs.dek_of.Reads as dek-of-reads
-use Rattle.objects.proofs.refused.Reads as refused-reads
-use Rattle.objects.proofs.with_pin.Reads as with-pin-reads
-use Rattle.session.proofs.ended.Reads as ended-reads
-use Rattle.session.proofs.flagged.Reads as flagged-reads
-use Rattle.session.proofs.access.Reads as access-reads
 
--- src/pin_change.rt:48:8
 access-requires : tie.Need-access-requires
 access-requires c κs = search needs
 
--- src/pin_change.rt:49:30
 ended-requires : tie.Need-ended-requires
 ended-requires c κs = search needs
 
--- src/pin_change.rt:49:9
 refused-requires : tie.Need-refused-requires
 refused-requires c κs = search needs
 
--- src/pin_change.rt:49:9
 returns : tie.Need-returns
 unfolding decided pinChangeOf pinStatus
 returns c = let n : length (c .before .before .before .before .before .args .body) ≡ 8 = search (needs, c .before .before .before .before .before .good .1 .1) in
     let e : eqb (length (c .before .before .before .before .before .args .body)) 0 ≡ false = rw n in
     rw (e, ← c .before .before .before .access .ensures, lt-ltb _ _ (c .before .before .if1 .taken), ← c .before .ended .ensures) (c .refused .ensures)
 
--- src/pin_change.rt:51:27
 dek-of-requires : tie.Need-dek-of-requires
 dek-of-requires c κs = search needs
 
--- src/pin_change.rt:51:9
 received8-requires : tie.Need-received8-requires
 received8-requires c κs = search needs
 
--- src/pin_change.rt:52:9
 well-formed-requires : tie.Need-well-formed-requires
 well-formed-requires c κs = search needs
 
--- src/pin_change.rt:53:30
 ended-requires-2 : tie.Need-ended-requires-2
 ended-requires-2 c κs = search needs
 
--- src/pin_change.rt:53:9
 refused-requires-2 : tie.Need-refused-requires-2
 refused-requires-2 c κs = search needs
 
--- src/pin_change.rt:53:9
 returns-2 : tie.Need-returns-2
 unfolding decided pinChangeOf pinStatus
 returns-2 c = let n : length (c .before .before .before .before .before .before .before .before .before .args .body) ≡ 8 = search (needs, c .before .before .before .before .before .before .before .before .before .good .1 .1) in
     let e : eqb (length (c .before .before .before .before .before .before .before .before .before .args .body)) 0 ≡ false = rw n in
     rw (e, ← c .before .before .before .before .before .before .before .access .ensures, le-ltb _ _ (c .before .before .before .before .before .before .if1 .left), ← c .before .before .before .before .before .dek-of .ensures, ← c .before .before .before .before .received8 .ensures, ← c .before .before .before .well-formed .ensures, not-true (c .before .before .before .well-formed .result) (c .before .before .if2 .taken), ← c .before .ended2 .ensures) (c .refused2 .ensures)
 
--- src/pin_change.rt:57:9
 with-pin-requires : tie.Need-with-pin-requires
 with-pin-requires c κs = search needs
 
--- src/pin_change.rt:58:9
 flagged-requires : tie.Need-flagged-requires
 flagged-requires c κs = search needs
 
--- src/pin_change.rt:55:5
 granted-requires : tie.Need-granted-requires
 granted-requires c κs = search needs
 
--- src/pin_change.rt:43:1
 returns-3 : tie.Need-returns-3
 unfolding decided pinChangeOf pinStatus
 returns-3 c = let n : length (c .before .before .before .before .before .before .before .before .before .before .args .body) ≡ 8 = search (needs, c .before .before .before .before .before .before .before .before .before .before .good .1 .1) in

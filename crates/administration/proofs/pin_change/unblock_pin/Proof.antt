@@ -5,58 +5,39 @@ use borrow.Author.Tests.{lt-ltb, le-ltb, not-true, not-false}
 use borrow.Author.Needs.{needs}
 use Rattle.administration.proofs.pin_change.unblock_pin.Statement.{statement}
 use Rattle.administration.proofs.pin_change.unblock_pin.Tie as tie
-use Rattle.administration.proofs.pin_change.unblock_pin.Reads as reads
-use Rattle.administration.proofs.pin_change.unblock_pin.Lts as lts
-use Rattle.administration.proofs.answer.granted.Reads as granted-reads
-use Rattle.objects.proofs.refused.Reads as refused-reads
-use Rattle.objects.proofs.with_tries.Reads as with-tries-reads
-use Rattle.session.proofs.ended.Reads as ended-reads
-use Rattle.session.proofs.flagged.Reads as flagged-reads
-use Rattle.session.proofs.access.Reads as access-reads
 
--- src/pin_change.rt:30:30
 ended-requires : tie.Need-ended-requires
 ended-requires c κs = search needs
 
--- src/pin_change.rt:30:9
 refused-requires : tie.Need-refused-requires
 refused-requires c κs = search needs
 
--- src/pin_change.rt:30:9
 returns : tie.Need-returns
 unfolding decided pinChangeOf
 returns c = rw (unblock-lacks _ _ _ (not-true (c .before .before .before .before .before .before .before .args .head .pin .defined) (c .before .before .if1 .taken)), ← c .before .ended .ensures) (c .refused .ensures)
 
--- src/pin_change.rt:32:8
 access-requires : tie.Need-access-requires
 access-requires c κs = search needs
 
--- src/pin_change.rt:33:30
 ended-requires-2 : tie.Need-ended-requires-2
 ended-requires-2 c κs = search needs
 
--- src/pin_change.rt:33:9
 refused-requires-2 : tie.Need-refused-requires-2
 refused-requires-2 c κs = search needs
 
--- src/pin_change.rt:33:9
 returns-2 : tie.Need-returns-2
 unfolding decided pinChangeOf
 returns-2 c = rw (← c .before .before .before .access .ensures, unblock-denied _ _ _ (not-false (c .before .before .before .before .before .before .before .before .before .args .head .pin .defined) (c .before .before .before .before .if1 .left)) (c .before .before .if2 .taken), ← c .before .ended2 .ensures) (c .refused2 .ensures)
 
--- src/pin_change.rt:37:9
 with-tries-requires : tie.Need-with-tries-requires
 with-tries-requires c κs = search needs
 
--- src/pin_change.rt:38:9
 flagged-requires : tie.Need-flagged-requires
 flagged-requires c κs = search needs
 
--- src/pin_change.rt:35:5
 granted-requires : tie.Need-granted-requires
 granted-requires c κs = search needs
 
--- src/pin_change.rt:22:1
 returns-3 : tie.Need-returns-3
 unfolding decided pinChangeOf
 returns-3 c = rw (← c .before .before .before .before .access .ensures, unblock-passes _ _ _ (not-false (c .before .before .before .before .before .before .before .before .before .before .args .head .pin .defined) (c .before .before .before .before .before .if1 .left)) (c .before .before .before .if2 .left), ← c .before .before .with-tries .ensures, ← c .before .flagged .ensures) (c .granted .ensures)

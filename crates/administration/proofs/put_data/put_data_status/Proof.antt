@@ -2,7 +2,6 @@ use Rattle.commands_spec.specs.PutData.{putDataStatus}
 use borrow.Author.Needs.{needs}
 use Rattle.administration.proofs.put_data.put_data_status.Statement.{statement}
 use Rattle.administration.proofs.put_data.put_data_status.Tie as tie
-use Rattle.administration.proofs.put_data.put_data_status.Reads as reads
 
 is-locked-requires : tie.Need-is-locked-requires
 is-locked-requires c κs = search needs

@@ -6,80 +6,52 @@ use borrow.Author.Tests.{eq-eqb, ne-eqb, not-true, not-false}
 use borrow.Author.Needs.{needs}
 use Rattle.administration.proofs.store_data.store_data.Statement.{statement}
 use Rattle.administration.proofs.store_data.store_data.Tie as tie
-use Rattle.administration.proofs.store_data.store_data.Reads as reads
-use Rattle.administration.proofs.store_data.store_data.Lts as lts
-use Rattle.administration.proofs.answer.granted.Reads as granted-reads
-use Rattle.administration.proofs.store_data.is_good.Reads as is-good-reads
-use Rattle.administration.proofs.store_data.is_keyed.Reads as is-keyed-reads
-use Rattle.administration.proofs.store_data.personalized.Reads as personalized-reads
-use Rattle.administration.proofs.store_data.store_status.Reads as store-status-reads
-use Rattle.administration.proofs.store_data.stored_all.Reads as stored-all-reads
-use Rattle.administration.proofs.store_data.within.Reads as within-reads
-use Rattle.objects.proofs.dek_of.Reads as dek-of-reads
-use Rattle.objects.proofs.refused.Reads as refused-reads
-use Rattle.session.proofs.ended.Reads as ended-reads
-use Rattle.session.proofs.access.Reads as access-reads
 
--- src/store_data.rt:216:9
 ended-requires : tie.Need-ended-requires
 ended-requires c κs = search needs
 
--- src/store_data.rt:219:9
 is-keyed-requires : tie.Need-is-keyed-requires
 is-keyed-requires c κs = search needs
 
--- src/store_data.rt:220:9
 access-requires : tie.Need-access-requires
 access-requires c κs = search needs
 
--- src/store_data.rt:221:9
 within-requires : tie.Need-within-requires
 within-requires c κs = search needs
 
--- src/store_data.rt:217:9
 store-status-requires : tie.Need-store-status-requires
 store-status-requires c κs = search needs
 
--- src/store_data.rt:225:9
 refused-requires : tie.Need-refused-requires
 refused-requires c κs = search needs
 
--- src/store_data.rt:225:9
 returns : tie.Need-returns
 unfolding storeDataOf
 returns c = rw (← c .before .before .before .before .before .before .ended .ensures, ← c .before .before .before .before .before .is-keyed .ensures, ← c .before .before .before .before .access .ensures, ← c .before .before .before .within .ensures) (refused-early _ _ _ _ _ _ _ _ _ _ (c .before .before .store-status .ensures) (c .before .if1 .taken) (c .refused .ensures))
 
--- src/store_data.rt:227:25
 dek-of-requires : tie.Need-dek-of-requires
 dek-of-requires c κs = search needs
 
--- src/store_data.rt:227:9
 stored-all-requires : tie.Need-stored-all-requires
 stored-all-requires c κs = search needs
 
--- src/store_data.rt:230:9
 is-good-requires : tie.Need-is-good-requires
 is-good-requires c κs = search needs
 
--- src/store_data.rt:231:9
 refused-requires-2 : tie.Need-refused-requires-2
 refused-requires-2 c κs = search needs
 
--- src/store_data.rt:231:9
 returns-2 : tie.Need-returns-2
 unfolding decided storeDataOf
 returns-2 c = let e = passed-early _ _ _ _ (c .before .before .is-good .result) (sym (c .before .before .before .before .before .before .before .before .store-status .ensures) ∙ c .before .before .before .before .before .before .before .if1 .left) in
     rw (← c .before .before .before .before .before .before .before .before .before .before .before .before .ended .ensures, ← c .before .before .before .before .before .before .dek-of .ensures, ← c .before .before .before .before .before .stored-all .ensures, ← c .before .before .is-good .ensures, ← c .before .before .before .before .before .before .before .before .before .before .before .is-keyed .ensures, ← c .before .before .before .before .before .before .before .before .before .before .access .ensures, ← c .before .before .before .before .before .before .before .before .before .within .ensures, e, not-true (c .before .before .is-good .result) (c .before .if2 .taken)) (c .refused2 .ensures)
 
--- src/store_data.rt:233:37
 personalized-requires : tie.Need-personalized-requires
 personalized-requires c κs = search needs
 
--- src/store_data.rt:233:5
 granted-requires : tie.Need-granted-requires
 granted-requires c κs = search needs
 
--- src/store_data.rt:209:1
 returns-3 : tie.Need-returns-3
 unfolding decided storeDataOf
 returns-3 c = let e = passed-early _ _ _ _ (c .before .before .before .is-good .result) (sym (c .before .before .before .before .before .before .before .before .before .store-status .ensures) ∙ c .before .before .before .before .before .before .before .before .if1 .left) in

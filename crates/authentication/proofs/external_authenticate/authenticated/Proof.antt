@@ -6,78 +6,51 @@ use mathlib.Core.List.{[]}
 use borrow.Author.Needs.{needs}
 use Rattle.authentication.proofs.external_authenticate.authenticated.Statement.{statement}
 use Rattle.authentication.proofs.external_authenticate.authenticated.Tie as tie
-use Rattle.authentication.proofs.external_authenticate.authenticated.Reads as reads
-use Rattle.authentication.proofs.external_authenticate.authenticated.Lts as lts
-use Rattle.authentication.proofs.external_authenticate.agreed.Reads as agreed-reads
-use Rattle.authentication.proofs.external_authenticate.ends_with.Reads as ends-with-reads
-use Rattle.authentication.proofs.external_authenticate.level_for.Reads as level-for-reads
-use Rattle.authentication.proofs.external_authenticate.starts_with.Reads as starts-with-reads
-use Rattle.channel.proofs.cmac.Reads as cmac-reads
-use Rattle.objects.proofs.done.Reads as done-reads
-use Rattle.objects.proofs.refused.Reads as refused-reads
-use Rattle.octets.proofs.empty.Reads as empty-reads
-use Rattle.session.proofs.closed.Reads as closed-reads
-use Rattle.session.proofs.opened.Reads as opened-reads
 
--- src/external_authenticate.rt:76:9
 starts-with-requires : tie.Need-starts-with-requires
 starts-with-requires c κs = search needs
 
--- src/external_authenticate.rt:77:30
 closed-requires : tie.Need-closed-requires
 closed-requires c κs = search needs
 
--- src/external_authenticate.rt:77:9
 refused-requires : tie.Need-refused-requires
 refused-requires c κs = search needs
 
--- src/external_authenticate.rt:77:9
 returns : tie.Need-returns
 unfolding authenticated
 returns c = rw (← c .before .before .before .starts-with .ensures, not-true (c .before .before .before .starts-with .result) (c .before .before .if1 .taken), ← c .before .closed .ensures) (c .refused .ensures)
 
--- src/external_authenticate.rt:79:9
 cmac-requires : tie.Need-cmac-requires
 cmac-requires c κs = search needs
 
--- src/external_authenticate.rt:80:9
 ends-with-requires : tie.Need-ends-with-requires
 ends-with-requires c κs = search needs
 
--- src/external_authenticate.rt:81:30
 closed-requires-2 : tie.Need-closed-requires-2
 closed-requires-2 c κs = search needs
 
--- src/external_authenticate.rt:81:9
 refused-requires-2 : tie.Need-refused-requires-2
 refused-requires-2 c κs = search needs
 
--- src/external_authenticate.rt:81:9
 returns-2 : tie.Need-returns-2
 unfolding authenticated
 returns-2 c = rw (← c .before .before .before .before .before .before .starts-with .ensures, not-false (c .before .before .before .before .before .before .starts-with .result) (c .before .before .before .before .before .if1 .left), ← c .before .before .before .before .cmac .ensures, ← c .before .before .before .ends-with .ensures, not-true (c .before .before .before .ends-with .result) (c .before .before .if2 .taken), ← c .before .closed2 .ensures) (c .refused2 .ensures)
 
--- src/external_authenticate.rt:83:26
 level-for-requires : tie.Need-level-for-requires
 level-for-requires c κs = search needs
 
--- src/external_authenticate.rt:83:9
 agreed-requires : tie.Need-agreed-requires
 agreed-requires c κs = search needs
 
--- src/external_authenticate.rt:84:35
 opened-requires : tie.Need-opened-requires
 opened-requires c κs = search needs
 
--- src/external_authenticate.rt:84:61
 empty-requires : tie.Need-empty-requires
 empty-requires c κs = search needs
 
--- src/external_authenticate.rt:84:5
 done-requires : tie.Need-done-requires
 done-requires c κs = search needs
 
--- src/external_authenticate.rt:63:1
 returns-3 : tie.Need-returns-3
 unfolding authenticated
 returns-3 c = rw (← c .before .before .before .before .before .before .before .before .before .starts-with .ensures, not-false (c .before .before .before .before .before .before .before .before .before .starts-with .result) (c .before .before .before .before .before .before .before .before .if1 .left), ← c .before .before .before .before .before .before .before .cmac .ensures, ← c .before .before .before .before .before .before .ends-with .ensures, not-false (c .before .before .before .before .before .before .ends-with .result) (c .before .before .before .before .before .if2 .left), ← c .before .before .before .before .level-for .ensures, ← c .before .before .before .agreed .ensures, ← c .before .before .opened .ensures)

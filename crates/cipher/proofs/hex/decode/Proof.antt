@@ -6,7 +6,6 @@ use Prim.Native.Nat.{_≤_, _-_}
 use borrow.Author.Needs.{needs}
 use Rattle.cipher.proofs.hex.decode.Statement.{statement}
 use Rattle.cipher.proofs.hex.decode.Tie as tie
-use Rattle.cipher.proofs.hex.decode.Reads as reads
 
 abbrev Inv-loop : tie.InvT-loop
 Inv-loop digits out₀ n i₀ out i = (length out ≡ length out₀) × (i ≤ n)

@@ -6,7 +6,6 @@ use Prim.Native.Nat.{_≤_, _-_}
 use borrow.Author.Needs.{needs}
 use Rattle.cipher.proofs.hex.encode.Statement.{statement}
 use Rattle.cipher.proofs.hex.encode.Tie as tie
-use Rattle.cipher.proofs.hex.encode.Reads as reads
 
 abbrev Inv-loop : tie.InvT-loop
 Inv-loop bytes out₀ i₀ out i = (length out ≡ length out₀) × (i ≤ length out₀)

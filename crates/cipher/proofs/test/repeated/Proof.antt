@@ -3,7 +3,6 @@ use Prim.Native.Nat.{_-_}
 use borrow.Author.Needs.{needs}
 use Rattle.cipher.proofs.test.repeated.Statement.{statement}
 use Rattle.cipher.proofs.test.repeated.Tie as tie
-use Rattle.cipher.proofs.test.repeated.Reads as reads
 
 abbrev Inv-loop : tie.InvT-loop
 Inv-loop decipher times keys b₀ counter₀ b counter = Unit {0}

@@ -4,7 +4,6 @@ use Rattle.octets.proofs.Rules.{rules}
 use borrow.Author.Needs.{needs}
 use Rattle.objects.proofs.values.maximum_ok.Statement.{statement}
 use Rattle.objects.proofs.values.maximum_ok.Tie as tie
-use Rattle.objects.proofs.values.maximum_ok.Reads as reads
 
 returns : tie.Need-returns
 unfolding maximumOk

@@ -3,7 +3,6 @@ use Rattle.octets.proofs.Rules.{rules}
 use borrow.Author.Needs.{needs}
 use Rattle.objects.proofs.values.value_ok.Statement.{statement}
 use Rattle.objects.proofs.values.value_ok.Tie as tie
-use Rattle.objects.proofs.values.value_ok.Reads as reads
 
 maximum-ok-requires : tie.Need-maximum-ok-requires
 maximum-ok-requires c κs = search needs
