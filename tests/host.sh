@@ -47,10 +47,21 @@ host_replays() {
     done
 }
 
+# The stored image, a card's memory that an earlier purse left, reads as the card that the second program has after the same calls.
+host_image() {
+    cat "$stored/image-making.bench" "$stored/image-reading.bench" >"$work/image.bench"
+    "$second" bench-run "$work/image.bench" >"$work/image-whole"
+    "$second" bench-run "$stored/image-making.bench" >"$work/image-making"
+    tail -n "+$(($(wc -l <"$work/image-making") + 1))" "$work/image-whole" >"$work/image-expected"
+    "$work/host-replay" --from tests/images/D1.card "$stored/image-reading.bench" >"$work/image-got"
+    same "host: the stored image reads as its card" "$work/image-expected" "$work/image-got"
+}
+
 if build_host; then
     pass "host: the C host is built"
     host_tests
     host_replays
+    host_image
 else
     fail "host: the C host is built"
 fi

@@ -1,5 +1,7 @@
-/* replay BENCHFILE: runs a bench file through the C host, and prints what a bench prints: I, S or C, the answer, and after C 0 the
-   response. */
+/* replay [--from IMAGE] [--to IMAGE] BENCHFILE: runs a bench file through the C host, and prints what a bench prints: I, S or C, the
+   answer, and after C 0 the response. Memory is all zero at first, or that of an image, and is written into one at the end. */
+
+#include <string.h>
 
 #include "bench.h"
 #include "purse.h"
@@ -42,13 +44,39 @@ static void print(unsigned kind, uint64_t result)
     putchar('\n');
 }
 
+/* Memory from an image, or into one; whoever calls says which. */
+static void move_image(const char *name, const char *mode)
+{
+    FILE *file = fopen(name, mode);
+    size_t moved;
+
+    if (file == NULL) {
+        perror(name);
+        exit(2);
+    }
+    moved = mode[0] == 'r' ? fread(memory, 1, sizeof memory, file) : fwrite(memory, 1, sizeof memory, file);
+    if (fclose(file) != 0 || moved != sizeof memory) {
+        fprintf(stderr, "%s: has not the %u bytes of a card's memory\n", name, (unsigned)sizeof memory);
+        exit(2);
+    }
+}
+
 int main(int argc, char **argv)
 {
     struct reader reader;
     struct record record;
+    const char *to = NULL;
 
+    for (; argc > 3; argc -= 2, argv += 2) {
+        if (strcmp(argv[1], "--from") == 0)
+            move_image(argv[2], "rb");
+        else if (strcmp(argv[1], "--to") == 0)
+            to = argv[2];
+        else
+            break;
+    }
     if (argc != 2) {
-        fprintf(stderr, "usage: replay BENCHFILE\n");
+        fprintf(stderr, "usage: replay [--from IMAGE] [--to IMAGE] BENCHFILE\n");
         return 2;
     }
     reader = open_bench(argv[1]);
@@ -63,5 +91,7 @@ int main(int argc, char **argv)
         if (purse_answer(result) == PURSE_CUT)
             unselect();
     }
+    if (to != NULL)
+        move_image(to, "wb");
     return 0;
 }

@@ -123,7 +123,15 @@ fn stored_files() {
         })
         .collect();
     names.sort();
-    let expected = ["cuts", "example", "purchase", "records", "sessions"];
+    let expected = [
+        "cuts",
+        "example",
+        "image-making",
+        "image-reading",
+        "purchase",
+        "records",
+        "sessions",
+    ];
     assert_eq!(names, expected.map(|name| format!("{name}.bench")));
     let example = folder.join("example.bench");
     let output = run(&["bench-run", &example.to_string_lossy()], "");

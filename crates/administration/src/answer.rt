@@ -3,15 +3,15 @@ ghost use mathlib.Core.List.{[]};
 ghost use mathlib.Core.Path.{_≡_};
 ghost use Rattle.commands_spec.specs.Outcomes.{done};
 use card::Head;
-use commands_spec::Effect;
+use commands_spec::Commits;
 use commands_spec::Outcome;
 use objects::done;
 use octets::empty;
 use session::Session;
 
 // A changed card, and 9000 alone.
-pub fn granted(effect: Effect, head: Head, session: Session) -> Outcome
-    ensures { λ r. ⌜ r ≡ done effect head session [] ⌝ }
+pub fn granted(commits: Commits, head: Head, session: Session) -> Outcome
+    ensures { λ r. ⌜ r ≡ done commits head session [] ⌝ }
 {
-    done(effect, head, session, empty())
+    done(commits, head, session, empty())
 }

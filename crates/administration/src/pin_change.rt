@@ -1,17 +1,17 @@
 // PIN CHANGE/UNBLOCK: both fill the tries and clear the flag.
 ghost use mathlib.Core.Path.{_≡_};
-ghost use Rattle.commands_spec.specs.PinChange.{pinChangeOf, pinStatus};
+ghost use Rattle.commands_spec.specs.PinChange.{pinChangeOf};
 ghost use mathlib.Core.List.{[]};
 use crate::answer::granted;
 use card::Head;
+use card::updates::with_pin;
+use card::updates::with_tries;
 use card::well_formed;
 use channel::received8;
-use commands_spec::Effect;
+use commands_spec::Commits;
 use commands_spec::Outcome;
 use objects::dek_of;
 use objects::refused;
-use objects::with_pin;
-use objects::with_tries;
 use session::ADMIN;
 use session::Session;
 use session::access::access;
@@ -33,7 +33,7 @@ pub fn unblock_pin(head: Head, session: Session) -> Outcome
         return refused(head, ended(session), 0x6982);
     }
     let next = with_tries(fixed.maxtries, head);
-    granted(Effect::StateOnly, next, flagged(false, session))
+    granted(Commits::Hot, next, flagged(false, session))
 }
 
 // A PIN under the DEK.
@@ -50,5 +50,5 @@ pub fn change_pin(head: Head, session: Session, body: [u8; 8]) -> Outcome
         return refused(head, ended(session), 0x6A80);
     }
     let next = with_pin(block, head);
-    granted(Effect::StateAndParameters, next, flagged(false, session))
+    granted(Commits::HotAndCold, next, flagged(false, session))
 }

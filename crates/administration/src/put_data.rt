@@ -1,9 +1,12 @@
 // PUT DATA: another value for a tag.
 ghost use mathlib.Core.Path.{_≡_};
-ghost use Rattle.commands_spec.specs.PutData.{dataStatus, locked, putDataOf, putDataStatus, undercuts};
+ghost use Rattle.octets.specs.Words.{wordAt};
+ghost use Rattle.session.specs.Access.{access};
+ghost use Rattle.commands_spec.specs.Data.{valueOk};
+ghost use Rattle.commands_spec.specs.PutData.{locked, putDataOf, putDataStatus, undercuts};
 use crate::answer::granted;
 use card::Head;
-use commands_spec::Effect;
+use commands_spec::Commits;
 use commands_spec::Outcome;
 use objects::datum_set;
 use objects::dek_of;
@@ -44,69 +47,43 @@ fn does_undercut(tag: u8, value: u16, balance: u16, number: u16) -> bool
     false
 }
 
-fn data_status(personalized: bool, locked: bool, level: u8, good: bool, undercuts: bool) -> u16
-    ensures { λ r. ⌜ r ≡ dataStatus personalized locked level good undercuts ⌝ }
+// The first rule of 01 that refuses, or 9000.
+pub fn put_data_status(head: Head, session: Session, tag: u8, value: &[u8]) -> u16
+    ensures { λ r. ⌜ r ≡ putDataStatus (head .purse .parameters .personalized) tag (access (session .channel .level))
+        (valueOk tag (now (value .entry))) (wordAt (now (value .entry)) 0) (head .purse .balance) (head .state .number) ⌝ }
 {
-    if !personalized {
+    let purse = head.purse;
+    let channel = session.channel;
+    let level = channel.level;
+    if !purse.parameters.personalized {
         return 0x6985;
     }
-    if locked {
+    if is_locked(tag, purse.balance) {
         return 0x6A81;
     }
-    if level < ADMIN {
+    if access(level) < ADMIN {
         return 0x6982;
     }
-    if !good {
+    if !value_ok(tag, value) {
         return 0x6A80;
     }
-    if undercuts {
+    if does_undercut(tag, word_at(value, 0), purse.balance, head.state.number) {
         return 0x6A80;
     }
     0x9000
-}
-
-// PUT DATA; `good` says that length and range of the value are right.
-pub fn put_data_status(
-    personalized: bool,
-    tag: u8,
-    level: u8,
-    good: bool,
-    value: u16,
-    balance: u16,
-    number: u16,
-) -> u16
-    ensures { λ r. ⌜ r ≡ putDataStatus personalized tag level good value balance number ⌝ }
-{
-    let locked = is_locked(tag, balance);
-    let undercuts = does_undercut(tag, value, balance, number);
-    data_status(personalized, locked, level, good, undercuts)
 }
 
 // Another value for a tag.
 pub fn put_data(head: Head, session: Session, tag: u8, value: &[u8]) -> Outcome
     ensures { λ r. ⌜ r ≡ putDataOf head session tag (now (value .entry)) ⌝ }
 {
-    let channel = session.channel;
-    let level = channel.level;
-    let purse = head.purse;
-    let parameters = purse.parameters;
-    let state = head.state;
-    let right = access(level);
-    let good = value_ok(tag, value);
-    let number = word_at(value, 0);
-    let w = put_data_status(
-        parameters.personalized,
-        tag,
-        right,
-        good,
-        number,
-        state.balance,
-        state.number,
-    );
+    let w = put_data_status(head, session, tag, value);
     let left = ended(session);
     if w != 0x9000 {
         return refused(head, left, w);
     }
+    let channel = session.channel;
+    let level = channel.level;
     let next = datum_set(dek_of(level, head), tag, value, head);
-    granted(Effect::ParametersOnly, next, left)
+    granted(Commits::HotAndCold, next, left)
 }

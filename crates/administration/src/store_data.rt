@@ -1,28 +1,28 @@
 // STORE DATA: a list of tag, length, value, which personalizes the card.
 ghost use mathlib.Core.Path.{_≡_};
-ghost use Rattle.commands_spec.specs.StoreData.{acceptable, complete, personalized, spoiled, storeDataOf, storeStatus, stored, storedAll, unread, within};
+ghost use Rattle.commands_spec.specs.StoreData.{acceptable, complete, personalized, rejected, storeDataOf, storeStatus};
+ghost use Rattle.commands_spec.specs.StoreData.{stored, storedAll, unread, within};
 ghost use Prim.Native.Nat.{_+_, _-_, min};
 ghost use lib.ListN.{length, set};
-ghost use mathlib.Core.Bool.{_&&_};
 use crate::answer::granted;
 use card::Head;
-use card::Purse;
-use commands_spec::Effect;
+use card::updates::with_parameters;
+use commands_spec::Commits;
 use commands_spec::Outcome;
 use commands_spec::store::Stored;
 use objects::datum_set;
 use objects::dek_of;
 use objects::refused;
 use objects::value_ok;
-use objects::with_parameters;
+use octets::both;
 use session::ADMIN;
 use session::Session;
 use session::access::access;
 use session::ended;
 
 // STORE DATA; `inside` says that no TLV is past the end, `good` that the rest of the data is right.
-pub fn store_status(personalized: bool, keyed: bool, level: u8, inside: bool, good: bool) -> u16
-    ensures { λ r. ⌜ r ≡ storeStatus personalized keyed level inside good ⌝ }
+pub fn store_status(personalized: bool, keyed: bool, held: u8, inside: bool, good: bool) -> u16
+    ensures { λ r. ⌜ r ≡ storeStatus personalized keyed held inside good ⌝ }
 {
     if personalized {
         return 0x6985;
@@ -30,7 +30,7 @@ pub fn store_status(personalized: bool, keyed: bool, level: u8, inside: bool, go
     if !keyed {
         return 0x6985;
     }
-    if level < ADMIN {
+    if held < ADMIN {
         return 0x6982;
     }
     if !inside {
@@ -62,8 +62,8 @@ pub fn within(s: &[u8]) -> bool
 }
 
 // A TLV was refused.
-fn spoiled(st: Stored) -> Stored
-    ensures { λ r. ⌜ r ≡ spoiled st ⌝ }
+fn rejected(st: Stored) -> Stored
+    ensures { λ r. ⌜ r ≡ rejected st ⌝ }
 {
     let mut t = st;
     t.good = false;
@@ -106,7 +106,7 @@ pub fn stored(dek: [u8; 16], st: Stored, tag: u8, v: &[u8]) -> Stored
 {
     let seen = st.seen;
     if !is_acceptable(seen, tag, v) {
-        return spoiled(st);
+        return rejected(st);
     }
     let tags = marked(seen, tag);
     let old = st.head;
@@ -183,28 +183,6 @@ pub fn personalized(head: Head) -> Head
     with_parameters(p, head)
 }
 
-// Whether sets 1 and 2 are defined.
-fn is_keyed(purse: Purse) -> bool
-    ensures { λ r. ⌜ r ≡ (purse .debit .defined && purse .credit .defined) ⌝ }
-{
-    let debit = purse.debit;
-    let credit = purse.credit;
-    if !debit.defined {
-        return false;
-    }
-    credit.defined
-}
-
-// Whether no TLV was refused and tags 01 to 05 have come.
-fn is_good(good: bool, seen: [u8; 8]) -> bool
-    ensures { λ r. ⌜ r ≡ (good && complete seen) ⌝ }
-{
-    if !good {
-        return false;
-    }
-    complete(seen)
-}
-
 // The data that personalizes the card.
 pub fn store_data(head: Head, session: Session, body: &[u8]) -> Outcome
     ensures { λ r. ⌜ r ≡ storeDataOf head session (now (body .entry)) ⌝ }
@@ -212,11 +190,10 @@ pub fn store_data(head: Head, session: Session, body: &[u8]) -> Outcome
     let channel = session.channel;
     let level = channel.level;
     let purse = head.purse;
-    let parameters = purse.parameters;
     let left = ended(session);
     let w = store_status(
-        parameters.personalized,
-        is_keyed(purse),
+        purse.parameters.personalized,
+        both(purse.debit.defined, purse.credit.defined),
         access(level),
         within(body),
         true,
@@ -227,8 +204,8 @@ pub fn store_data(head: Head, session: Session, body: &[u8]) -> Outcome
     let st = stored_all(dek_of(level, head), body, head);
     let seen = st.seen;
     let filled = st.head;
-    if !is_good(st.good, seen) {
+    if !both(st.good, complete(seen)) {
         return refused(head, left, 0x6A80);
     }
-    granted(Effect::ParametersOnly, personalized(filled), left)
+    granted(Commits::HotAndCold, personalized(filled), left)
 }

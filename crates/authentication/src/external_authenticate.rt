@@ -4,7 +4,7 @@ ghost use Rattle.octets.specs.Bytes.{part, same, zeros};
 ghost use Rattle.commands_spec.specs.ExternalAuthenticate.{authenticated, externalAuthenticateOf, levelFor};
 use card::Head;
 use channel::cmac;
-use commands_spec::Effect;
+use commands_spec::Commits;
 use commands_spec::Outcome;
 use objects::done;
 use objects::refused;
@@ -81,26 +81,7 @@ fn authenticated(
         return refused(head, closed(session), 0x6982);
     }
     let channel = agreed(level_for(p1, set), offer, own);
-    done(Effect::Unchanged, head, opened(channel, session), empty())
-}
-
-// By what is pending.
-fn by_pending(
-    pending: Pending,
-    head: Head,
-    session: Session,
-    p1: u8,
-    command: &[u8],
-    body: [u8; 16],
-) -> Outcome
-    ensures { λ r. ⌜ r ≡ externalAuthenticateOf pending head session p1 (now (command .entry)) body ⌝ }
-{
-    match pending {
-        Pending::Update(set) => authenticated(set, head, session, p1, command, body),
-        Pending::Nothing => refused(head, ended(session), 0x6985),
-        Pending::Debiting(_) => refused(head, ended(session), 0x6985),
-        Pending::Crediting(_) => refused(head, ended(session), 0x6985),
-    }
+    done(Commits::Unchanged, head, opened(channel, session), empty())
 }
 
 // EXTERNAL AUTHENTICATE past step 5.
@@ -114,5 +95,10 @@ pub fn external_authenticate(
     ensures { λ r. ⌜ r ≡ externalAuthenticateOf (session .pending) head session p1 (now (command .entry)) body ⌝ }
 {
     let pending = session.pending;
-    by_pending(pending, head, session, p1, command, body)
+    match pending {
+        Pending::Update(set) => authenticated(set, head, session, p1, command, body),
+        Pending::Nothing => refused(head, ended(session), 0x6985),
+        Pending::Debiting(_) => refused(head, ended(session), 0x6985),
+        Pending::Crediting(_) => refused(head, ended(session), 0x6985),
+    }
 }

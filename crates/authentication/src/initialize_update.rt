@@ -5,14 +5,14 @@ ghost use lib.ListN.{length};
 ghost use Rattle.octets.specs.Buffers.{holding};
 ghost use Rattle.commands_spec.specs.InitializeUpdate.{initializeUpdateOf, offer, updateAnswer};
 use card::Head;
-use card::KeySet;
+use card::Keys;
 use channel::card_cryptogram;
 use channel::host_cryptogram;
 use channel::session_key;
-use commands_spec::Effect;
+use commands_spec::Commits;
 use commands_spec::Outcome;
 use objects::done;
-use objects::keys_of;
+use objects::key_set_of;
 use objects::refused;
 use octets::Buffer;
 use octets::append;
@@ -25,7 +25,7 @@ use session::offered;
 use session::set_of;
 
 // The session keys, and the host cryptogram that is to come.
-fn offer(keys: KeySet, host: [u8; 8], card: [u8; 8]) -> Offer
+fn offer(keys: Keys, host: [u8; 8], card: [u8; 8]) -> Offer
     ensures { λ r. ⌜ r ≡ offer keys host card ⌝ }
 {
     let stored_enc = keys.enc;
@@ -62,13 +62,14 @@ pub fn initialize_update(
     ensures { λ r. ⌜ r ≡ initializeUpdateOf head session p1 host card ⌝ }
 {
     let set = set_of(p1);
-    let keys = keys_of(set, head);
-    if !keys.defined {
+    let known = key_set_of(set, head);
+    if !known.defined {
         return refused(head, ended(session), 0x6A88);
     }
+    let keys = known.keys;
     let made = offer(keys, host, card);
     let enc = made.enc;
     let answer = update_answer(p1, enc, host, card);
     let next = offered(set, made, session);
-    done(Effect::Unchanged, head, next, answer)
+    done(Commits::Unchanged, head, next, answer)
 }

@@ -11,9 +11,9 @@ use Rattle.octets.specs.Bytes.{AreBytes, zeros, byteAt, part}
 use Rattle.octets.specs.Words.{wordAt}
 use Rattle.octets.proofs.Ranges.{drop-bytes, part-bytes, zeros-bytes}
 use Rattle.framing.specs.Frames.{headerSize, frameData, dataSize, frameSize, whole}
-use Rattle.card.specs.Layout.{memorySize}
-use Rattle.card.specs.Reading.{readable}
-use Rattle.card.proofs.Cards.{read-readable}
+use Rattle.memory.specs.Layout.{memorySize}
+use Rattle.memory.specs.Reading.{readable}
+use Rattle.memory.proofs.Cards.{read-readable}
 use Rattle.session.specs.declared.Session.{Session}
 use Rattle.session.specs.Transitions.{unselected}
 use Rattle.session.proofs.Sizes.{unselected-sized}

@@ -8,11 +8,11 @@ use borrow.Author.Tests.{le-leb, leb-true, eqb-true}
 use lib.Dec.{leb, eqb}
 use lib.ListN.{length, getD, take, drop, replicate, length-append, length-replicate, length-drop, take-append-drop}
 use lib.Seq.{length-take-le, take-at, drop-at}
+use Rattle.octets.specs.Bytes.{Octets}
 use Rattle.octets.specs.Tests.{allTrue}
 use Rattle.octets.proofs.Conditions.{each, and-both}
 use Rattle.octets.proofs.Ranges.{none-bytes, cons-bytes}
-use Rattle.card.specs.Pin.{nibbles, within, wellFormed, paired, blockOf, Digits}
-use Rattle.card.specs.Proper.{Bytes}
+use Rattle.card.specs.Pin.{nibbles, between, wellFormed, paired, blockOf, Digits}
 
 -- ---- nibbles and bytes
 
@@ -30,7 +30,7 @@ nibbles-paired (suc k) (x ∷ y ∷ l) e f =
     rw (p, q, nibbles-paired k l (omega arith) (λ i. f (suc (suc i))))
 
 -- they make half as many bytes
-paired-bytes : (k : ℕ) (l : List ℕ) → length l ≡ 2 * k → ((i : ℕ) → getD l i 0 ≤ 15) → Bytes k (paired l)
+paired-bytes : (k : ℕ) (l : List ℕ) → length l ≡ 2 * k → ((i : ℕ) → getD l i 0 ≤ 15) → Octets k (paired l)
 unfolding paired
 paired-bytes zero [] e f = record { size = refl; each = none-bytes }
 paired-bytes zero (x ∷ l) e f = absurd (omega arith)
@@ -57,10 +57,10 @@ length-nibbles (x ∷ b) = omega (arith, length-nibbles b)
 
 -- ---- ranges
 
-within-each : (high : ℕ) (l : List ℕ) → ((i : ℕ) → getD l i 0 ≤ high) → within 0 high l ≡ true
-unfolding within
-within-each high [] f = refl
-within-each high (x ∷ l) f = rw (le-leb 0 x (omega arith), le-leb x high (f 0), within-each high l (λ i. f (suc i)))
+between-each : (high : ℕ) (l : List ℕ) → ((i : ℕ) → getD l i 0 ≤ high) → between 0 high l ≡ true
+unfolding between
+between-each high [] f = refl
+between-each high (x ∷ l) f = rw (le-leb 0 x (omega arith), le-leb x high (f 0), between-each high l (λ i. f (suc i)))
 
 -- what bounds the elements of two lists bounds those of both together
 most-append : (m : ℕ) (a b : List ℕ) → ((i : ℕ) → getD a i 0 ≤ m) → ((i : ℕ) → getD b i 0 ≤ m) → (i : ℕ) → getD (a ++ b) i 0 ≤ m
@@ -79,25 +79,25 @@ most-nibbles n l h f (suc zero) = h
 most-nibbles n l h f (suc (suc i)) = f i
 
 -- a list between two equal bounds repeats one number
-within-same : (m : ℕ) (l : List ℕ) → within m m l ≡ true → l ≡ replicate (length l) m
-unfolding within
-within-same m [] e = refl
-within-same m (x ∷ l) e =
-    let a = and-both (leb m x && leb x m) (within m m l) e in
+between-same : (m : ℕ) (l : List ℕ) → between m m l ≡ true → l ≡ replicate (length l) m
+unfolding between
+between-same m [] e = refl
+between-same m (x ∷ l) e =
+    let a = and-both (leb m x && leb x m) (between m m l) e in
     let b = and-both (leb m x) (leb x m) (a .0) in
     let p : x ≡ m = omega (arith, leb-true m x (b .0), leb-true x m (b .1)) in
-    rw (p, ← within-same m l (a .1))
+    rw (p, ← between-same m l (a .1))
 
-within-most : (high : ℕ) (l : List ℕ) → within 0 high l ≡ true → (i : ℕ) → getD l i 0 ≤ high
-unfolding within
-within-most high [] e i = omega arith
-within-most high (x ∷ l) e zero = leb-true x high (and-both (leb 0 x) (leb x high) (and-both (leb 0 x && leb x high) (within 0 high l) e .0) .1)
-within-most high (x ∷ l) e (suc i) = within-most high l (and-both (leb 0 x && leb x high) (within 0 high l) e .1) i
+between-most : (high : ℕ) (l : List ℕ) → between 0 high l ≡ true → (i : ℕ) → getD l i 0 ≤ high
+unfolding between
+between-most high [] e i = omega arith
+between-most high (x ∷ l) e zero = leb-true x high (and-both (leb 0 x) (leb x high) (and-both (leb 0 x && leb x high) (between 0 high l) e .0) .1)
+between-most high (x ∷ l) e (suc i) = between-most high l (and-both (leb 0 x && leb x high) (between 0 high l) e .1) i
 
-within-repeat : (m k : ℕ) → within m m (replicate k m) ≡ true
-unfolding within
-within-repeat m zero = refl
-within-repeat m (suc k) = rw (le-leb m m (omega arith), within-repeat m k)
+between-repeat : (m k : ℕ) → between m m (replicate k m) ≡ true
+unfolding between
+between-repeat m zero = refl
+between-repeat m (suc k) = rw (le-leb m m (omega arith), between-repeat m k)
 
 -- ---- the two directions
 
@@ -120,7 +120,7 @@ module _ (digits : List ℕ) (d : Digits digits) where
       most-nibbles n (digits ++ fill) (omega (arith, d .most)) (most-append 15 digits fill (λ i. omega (arith, d .each i)) (most-replicate 15 (14 - n)))
 
   -- it has eight bytes
-  pub block-bytes : Bytes 8 (blockOf digits)
+  pub block-bytes : Octets 8 (blockOf digits)
   unfolding blockOf
   block-bytes = paired-bytes 8 sixteen sixteen-long sixteen-most
 
@@ -134,27 +134,27 @@ module _ (digits : List ℕ) (d : Digits digits) where
         drop-at digits fill n refl,
         le-leb 4 n (d .least),
         le-leb n 12 (d .most),
-        within-each 9 digits (d .each),
-        within-repeat 0xF (14 - n),
+        between-each 9 digits (d .each),
+        between-repeat 0xF (14 - n),
       )
 
 -- sixteen nibbles that pass the tests are 2, the number of digits, the digits, and F
 formed-nibbles : (l : List ℕ) → length l ≡ 16
     → let n = getD l 1 0 in
     let digits = take n (drop 2 l) in
-    allTrue (eqb (getD l 0 0) 2 ∷ leb 4 n ∷ leb n 12 ∷ within 0 9 digits ∷ within 0xF 0xF (drop n (drop 2 l)) ∷ []) ≡ true
+    allTrue (eqb (getD l 0 0) 2 ∷ leb 4 n ∷ leb n 12 ∷ between 0 9 digits ∷ between 0xF 0xF (drop n (drop 2 l)) ∷ []) ≡ true
     → Digits digits × (l ≡ 2 ∷ length digits ∷ digits ++ replicate (14 - length digits) 0xF)
 formed-nibbles [] s e = absurd (omega arith)
 formed-nibbles (x ∷ []) s e = absurd (omega arith)
 formed-nibbles (x ∷ n ∷ r) s e =
-    let t = each (eqb x 2 ∷ leb 4 n ∷ leb n 12 ∷ within 0 9 (take n r) ∷ within 0xF 0xF (drop n r) ∷ []) e in
+    let t = each (eqb x 2 ∷ leb 4 n ∷ leb n 12 ∷ between 0 9 (take n r) ∷ between 0xF 0xF (drop n r) ∷ []) e in
     let a = eqb-true x 2 (t .0) in
     let b = leb-true 4 n (t .1 .0) in
     let d = leb-true n 12 (t .1 .1 .0) in
     let z : length (take n r) ≡ n = length-take-le n r (omega arith) in
     let k : length (drop n r) ≡ 14 - n = omega (arith, length-drop n r) in
-    let f : drop n r ≡ replicate (14 - n) 0xF = within-same 0xF (drop n r) (t .1 .1 .1 .1 .0) ∙ ap (λ (m : ℕ). replicate m 0xF) k in (
-      record { least = omega arith; most = omega arith; each = within-most 9 (take n r) (t .1 .1 .1 .0) },
+    let f : drop n r ≡ replicate (14 - n) 0xF = between-same 0xF (drop n r) (t .1 .1 .1 .1 .0) ∙ ap (λ (m : ℕ). replicate m 0xF) k in (
+      record { least = omega arith; most = omega arith; each = between-most 9 (take n r) (t .1 .1 .1 .0) },
       rw (a, z, ← f, take-append-drop n r),
     )
 

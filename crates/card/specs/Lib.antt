@@ -1,7 +1,8 @@
+pub mod Log
+pub mod Keys
 pub mod Card
+pub mod Updates
+pub mod Changes
 pub mod Pin
 pub mod Proper
-pub mod Layout
-pub mod Reading
-pub mod Changes
 pub mod Ranges

@@ -13,9 +13,9 @@ nibbles [] = []
 nibbles (b ∷ block) = b / 16 ∷ b % 16 ∷ nibbles block
 
 -- every number of a list is from low to high
-unfoldable pub within : ℕ → ℕ → List ℕ → Bool
-within low high [] = true
-within low high (d ∷ l) = leb low d && leb d high && within low high l
+unfoldable pub between : ℕ → ℕ → List ℕ → Bool
+between low high [] = true
+between low high (d ∷ l) = leb low d && leb d high && between low high l
 
 -- of the nibbles after the first two, the first n are digits and the others F
 unfoldable pub wellFormed : List ℕ → Bool
@@ -23,7 +23,7 @@ wellFormed block =
     let l = nibbles block in
     let n = getD l 1 0 in
     allTrue
-    (eqb (getD l 0 0) 2 ∷ leb 4 n ∷ leb n 12 ∷ within 0 9 (take n (drop 2 l)) ∷ within 0xF 0xF (drop n (drop 2 l)) ∷ [])
+    (eqb (getD l 0 0) 2 ∷ leb 4 n ∷ leb n 12 ∷ between 0 9 (take n (drop 2 l)) ∷ between 0xF 0xF (drop n (drop 2 l)) ∷ [])
 
 -- ---- the same block made of its digits
 

@@ -1,26 +1,47 @@
 // The fresh card's head.
 ghost use mathlib.Core.Path.{_≡_};
-ghost use Rattle.card.specs.Card.{noKeys, noParameters, noPurse, noFixed, freshHead};
-use crate::head::Agent;
+ghost use Rattle.card.specs.Card.{noKeys, noKeySet, noParameters, noPurse, noAid, noFixed, freshHead};
+use crate::head::Aid;
 use crate::head::Bank;
 use crate::head::Fixed;
 use crate::head::Head;
 use crate::head::KeySet;
+use crate::head::Keys;
 use crate::head::Parameters;
 use crate::head::Pin;
 use crate::head::Purse;
 use crate::head::Shared;
 use crate::head::State;
 
-// An undefined key set.
-fn no_keys() -> KeySet
+// Keys of zeros.
+fn no_keys() -> Keys
     ensures { λ r. ⌜ r ≡ noKeys ⌝ }
 {
-    KeySet {
-        defined: false,
+    Keys {
         enc: [0; 16],
         mac: [0; 16],
         dek: [0; 16],
+    }
+}
+
+// An undefined key set.
+fn no_key_set() -> KeySet
+    ensures { λ r. ⌜ r ≡ noKeySet ⌝ }
+{
+    let keys = no_keys();
+    KeySet {
+        defined: false,
+        keys: keys,
+    }
+}
+
+// No AID.
+fn no_aid() -> Aid
+    ensures { λ r. ⌜ r ≡ noAid ⌝ }
+{
+    Aid {
+        size: 0,
+        bytes: [0; 16],
     }
 }
 
@@ -32,10 +53,7 @@ fn no_parameters() -> Parameters
         defined: false,
         value: [0; 16],
     };
-    let agent = Agent {
-        length: 0,
-        value: [0; 16],
-    };
+    let agent = no_aid();
     Parameters {
         personalized: false,
         identifier: [0; 4],
@@ -48,35 +66,36 @@ fn no_parameters() -> Parameters
 }
 
 // A purse that is not personalized.
-fn no_purse() -> Purse
-    ensures { λ r. ⌜ r ≡ noPurse ⌝ }
+fn no_purse(aid: Aid) -> Purse
+    ensures { λ r. ⌜ r ≡ noPurse aid ⌝ }
 {
     let parameters = no_parameters();
-    let debit = no_keys();
-    let credit = no_keys();
+    let debit = no_key_set();
+    let credit = no_key_set();
     Purse {
+        aid: aid,
         parameters: parameters,
         debit: debit,
         credit: credit,
+        balance: 0,
     }
 }
 
 // What installation makes of its data.
-pub fn fresh_head(fixed: Fixed, admin: KeySet) -> Head
-    ensures { λ r. ⌜ r ≡ freshHead fixed admin ⌝ }
+pub fn fresh_head(fixed: Fixed, aid: Aid, admin: Keys) -> Head
+    ensures { λ r. ⌜ r ≡ freshHead fixed aid admin ⌝ }
 {
     let shared = Shared {
         maxnumber: 0,
         admin: admin,
     };
-    let purse = no_purse();
+    let purse = no_purse(aid);
     let pin = Pin {
         defined: false,
         block: [0; 8],
     };
     let state = State {
         number: 0,
-        balance: 0,
         tries: fixed.maxtries,
     };
     Head {
@@ -90,14 +109,13 @@ pub fn fresh_head(fixed: Fixed, admin: KeySet) -> Head
 
 // The head that stands where there is no card.
 pub fn no_head() -> Head
-    ensures { λ r. ⌜ r ≡ freshHead noFixed noKeys ⌝ }
+    ensures { λ r. ⌜ r ≡ freshHead noFixed noAid noKeys ⌝ }
 {
     let fixed = Fixed {
-        aidlen: 0,
-        aid: [0; 16],
         logsize: 0,
         maxtries: 0,
     };
+    let aid = no_aid();
     let admin = no_keys();
-    fresh_head(fixed, admin)
+    fresh_head(fixed, aid, admin)
 }

@@ -1,26 +1,34 @@
 // A card without its log, by value. What is undefined is zero, so that equal cards are equal.
 
-// What installation fixes: the AID, of `aidlen` bytes and zeros after them, how many records the log has, and how many tries
-// a PIN has.
+// An AID: `size` bytes and zeros after them.
+pub struct Aid {
+    pub size: u8,
+    pub bytes: [u8; 16],
+}
+
+// What installation fixes for the whole card: how many records the log has, and how many tries a PIN has.
 pub struct Fixed {
-    pub aidlen: u8,
-    pub aid: [u8; 16],
     pub logsize: u8,
     pub maxtries: u8,
 }
 
-// A key set: S-ENC, S-MAC and DEK.
-pub struct KeySet {
-    pub defined: bool,
+// Three keys: S-ENC, S-MAC and DEK.
+pub struct Keys {
     pub enc: [u8; 16],
     pub mac: [u8; 16],
     pub dek: [u8; 16],
 }
 
-// Tag 05 and key set 3.
+// A key set that may be undefined.
+pub struct KeySet {
+    pub defined: bool,
+    pub keys: Keys,
+}
+
+// Tag 05 and key set 3, which is always defined.
 pub struct Shared {
     pub maxnumber: u16,
-    pub admin: KeySet,
+    pub admin: Keys,
 }
 
 // Tag 06.
@@ -29,13 +37,7 @@ pub struct Bank {
     pub value: [u8; 16],
 }
 
-// Tag 07: `length` bytes and zeros after them; undefined where the length is 0.
-pub struct Agent {
-    pub length: u8,
-    pub value: [u8; 16],
-}
-
-// Tags 01 to 04, 06 and 07.
+// Tags 01 to 04, 06 and 07; the agent's AID is undefined where its size is 0.
 pub struct Parameters {
     pub personalized: bool,
     pub identifier: [u8; 4],
@@ -43,25 +45,27 @@ pub struct Parameters {
     pub maxbalance: u16,
     pub maxdebit: u16,
     pub bank: Bank,
-    pub agent: Agent,
+    pub agent: Aid,
 }
 
-// What belongs to one purse: its parameters, key set 1 and key set 2.
+// What belongs to one purse: its AID, its parameters, key set 1, key set 2 and tag 15.
 pub struct Purse {
+    pub aid: Aid,
     pub parameters: Parameters,
     pub debit: KeySet,
     pub credit: KeySet,
+    pub balance: u16,
 }
 
+// The PIN, as its block.
 pub struct Pin {
     pub defined: bool,
     pub block: [u8; 8],
 }
 
-// Tags 14 to 16.
+// Tags 14 and 16.
 pub struct State {
     pub number: u16,
-    pub balance: u16,
     pub tries: u8,
 }
 

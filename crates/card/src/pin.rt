@@ -1,7 +1,7 @@
 // The PIN block.
 ghost use mathlib.Core.Path.{_≡_};
-ghost use Rattle.card.specs.Pin.{nibbles, within, wellFormed};
-use crate::tests::all_true;
+ghost use Rattle.card.specs.Pin.{nibbles, between, wellFormed};
+use octets::all_true;
 
 // The sixteen nibbles of a block.
 fn nibbles(block: [u8; 8]) -> [u8; 16]
@@ -18,8 +18,8 @@ fn nibbles(block: [u8; 8]) -> [u8; 16]
 }
 
 // Whether every number is from low to high.
-fn within(l: &[u8], low: u8, high: u8) -> bool
-    ensures { λ r. ⌜ r ≡ within low high (now (l .entry)) ⌝ }
+fn between(l: &[u8], low: u8, high: u8) -> bool
+    ensures { λ r. ⌜ r ≡ between low high (now (l .entry)) ⌝ }
 {
     let mut i = 0;
     while i < l.len() {
@@ -49,8 +49,8 @@ pub fn well_formed(block: [u8; 8]) -> bool
         first == 2,
         4 <= n,
         n <= 12,
-        within(&l[2..at], 0, 9),
-        within(&l[at..], 15, 15),
+        between(&l[2..at], 0, 9),
+        between(&l[at..], 15, 15),
     ];
     all_true(&tests)
 }

@@ -9,7 +9,6 @@ ghost use Rattle.commands_spec.specs.Outcomes.{decided};
 ghost use Rattle.commands_spec.specs.Respond.{plainOf, authorized, onInstruction, respondTo};
 use crate::plain::plain;
 use crate::signed::authorized;
-use apdu::Apdu;
 use apdu::Instruction;
 use apdu::Parsed;
 use apdu::Plain;
@@ -19,96 +18,76 @@ use apdu::parse;
 use apdu::plain_status;
 use apdu::signed_status;
 use card::Head;
+use card::Record;
 use commands_spec::Outcome;
+use objects::Request;
 use objects::refused;
 use session::Session;
 use session::ended;
 
 // A command without a C-MAC.
-fn on_plain(
-    p: Plain,
-    head: Head,
-    entry: [u8; 24],
-    session: Session,
-    a: Apdu,
-    command: &[u8],
-    random: [u8; 8],
-) -> Outcome
-    requires { ⌜ parsed (now command) ≡ Command a ⌝ }
-    ensures { λ r. ⌜ r ≡ decided (plainStatus p (session .selected) a (head .fixed .logsize)) head (ended session)
-        (plainOf p head entry session a (now (command .entry)) (dataOf (now (command .entry)) (a .lc)) random) ⌝ }
+fn on_plain(p: Plain, head: Head, session: Session, request: Request, command: &[u8]) -> Outcome
+    requires { ⌜ parsed (now command) ≡ Command (request .header) ⌝ }
+    ensures { λ r. ⌜ r ≡ decided (plainStatus p (session .selected) (request .header) (head .fixed .logsize)) head (ended session)
+        (plainOf p head (request .found) session (request .header) (now (command .entry))
+        (dataOf (now (command .entry)) (request .header .lc)) (request .random)) ⌝ }
 {
-    let fixed = head.fixed;
-    let w = plain_status(p, session.selected, a, fixed.logsize);
+    let header = request.header;
+    let w = plain_status(p, session.selected, header, head.fixed.logsize);
     if w != 0x9000 {
-        let left = ended(session);
-        return refused(head, left, w);
+        return refused(head, ended(session), w);
     }
-    plain(p, head, entry, session, a, command, random)
+    plain(p, head, session, request, command)
 }
 
 // A command with a C-MAC.
-fn on_signed(g: Signed, head: Head, session: Session, a: Apdu, command: &[u8]) -> Outcome
-    requires { ⌜ parsed (now command) ≡ Command a ⌝ }
-    ensures { λ r. ⌜ r ≡ decided (signedStatus g (session .selected) a) head (ended session) (authorized g head session a (now (command .entry))) ⌝ }
+fn on_signed(g: Signed, head: Head, session: Session, request: Request, command: &[u8]) -> Outcome
+    requires { ⌜ parsed (now command) ≡ Command (request .header) ⌝ }
+    ensures { λ r. ⌜ r ≡ decided (signedStatus g (session .selected) (request .header)) head (ended session)
+        (authorized g head session (request .header) (now (command .entry))) ⌝ }
 {
-    let w = signed_status(g, session.selected, a);
+    let header = request.header;
+    let w = signed_status(g, session.selected, header);
     if w != 0x9000 {
-        let left = ended(session);
-        return refused(head, left, w);
+        return refused(head, ended(session), w);
     }
-    authorized(g, head, session, a, command)
+    authorized(g, head, session, request, command)
 }
 
 // Step 2: class and instruction.
-fn on_instruction(
-    instruction: Instruction,
-    head: Head,
-    entry: [u8; 24],
-    session: Session,
-    a: Apdu,
-    command: &[u8],
-    random: [u8; 8],
-) -> Outcome
-    requires { ⌜ parsed (now command) ≡ Command a ⌝ }
-    ensures { λ r. ⌜ r ≡ onInstruction instruction head entry session a (now (command .entry)) random ⌝ }
+fn on_command(head: Head, session: Session, request: Request, command: &[u8]) -> Outcome
+    requires { ⌜ parsed (now command) ≡ Command (request .header) ⌝ }
+    ensures { λ r. ⌜ r ≡ onInstruction (instruction (request .header .cla) (request .header .ins)) head (request .found) session
+        (request .header) (now (command .entry)) (request .random) ⌝ }
 {
-    match instruction {
-        Instruction::IsPlain(p) => on_plain(p, head, entry, session, a, command, random),
-        Instruction::IsSigned(g) => on_signed(g, head, session, a, command),
+    let header = request.header;
+    match classify(header.cla, header.ins) {
+        Instruction::IsPlain(p) => on_plain(p, head, session, request, command),
+        Instruction::IsSigned(g) => on_signed(g, head, session, request, command),
         Instruction::UnknownClass => refused(head, ended(session), 0x6E00),
         Instruction::UnknownInstruction => refused(head, ended(session), 0x6D00),
     }
 }
 
-// A command with its header.
-fn on_command(
-    a: Apdu,
-    head: Head,
-    entry: [u8; 24],
-    session: Session,
-    command: &[u8],
-    random: [u8; 8],
-) -> Outcome
-    requires { ⌜ parsed (now command) ≡ Command a ⌝ }
-    ensures { λ r. ⌜ r ≡ onInstruction (instruction (a .cla) (a .ins)) head entry session a (now (command .entry)) random ⌝ }
-{
-    let instruction = classify(a.cla, a.ins);
-    on_instruction(instruction, head, entry, session, a, command, random)
-}
-
-// A command on a card's head; `entry` is the log record that the command would read.
+// A command on a card's head; `found` is the log record that the command would read.
 pub fn respond(
     head: Head,
-    entry: [u8; 24],
+    found: Record,
     session: Session,
     command: &[u8],
     random: [u8; 8],
 ) -> Outcome
-    ensures { λ r. ⌜ r ≡ respondTo head entry session (now (command .entry)) random ⌝ }
+    ensures { λ r. ⌜ r ≡ respondTo head found session (now (command .entry)) random ⌝ }
 {
     match parse(command) {
-        Parsed::Command(a) => on_command(a, head, entry, session, command, random),
+        Parsed::Command(header) => {
+            let request = Request {
+                header: header,
+                found: found,
+                random: random,
+            };
+            on_command(head, session, request, command)
+        }
         Parsed::WrongLength => refused(head, ended(session), 0x6700),
     }
 }

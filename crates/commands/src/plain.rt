@@ -8,12 +8,12 @@ ghost use Rattle.apdu.specs.Lengths.{plainLength};
 ghost use Rattle.apdu.specs.Parsing.{parsed, dataOf};
 ghost use Rattle.commands_spec.specs.Respond.{plainOf};
 ghost use Rattle.commands_spec.specs.Select.{selectOf};
-use apdu::Apdu;
 use apdu::Plain;
 use authentication::external_authenticate::external_authenticate;
 use authentication::initialize_update::initialize_update;
 use card::Head;
 use commands_spec::Outcome;
+use objects::Request;
 use octets::part8;
 use octets::part16;
 use queries::get_data::get_data;
@@ -34,33 +34,31 @@ fn select_data(head: Head, session: Session, command: &[u8], lc: u8) -> Outcome
 }
 
 // A command without a C-MAC, on its data.
-pub fn plain(
-    p: Plain,
-    head: Head,
-    entry: [u8; 24],
-    session: Session,
-    a: Apdu,
-    command: &[u8],
-    random: [u8; 8],
-) -> Outcome
-    requires { ⌜ (parsed (now command) ≡ Command a) × (plainLength p (a .lc) ≡ true) ⌝ }
-    ensures { λ r. ⌜ r ≡ plainOf p head entry session a (now (command .entry)) (dataOf (now (command .entry)) (a .lc)) random ⌝ }
+pub fn plain(p: Plain, head: Head, session: Session, request: Request, command: &[u8]) -> Outcome
+    requires { ⌜ (parsed (now command) ≡ Command (request .header)) × (plainLength p (request .header .lc) ≡ true) ⌝ }
+    ensures { λ r. ⌜ r ≡ plainOf p head (request .found) session (request .header) (now (command .entry))
+        (dataOf (now (command .entry)) (request .header .lc)) (request .random) ⌝ }
 {
+    let header = request.header;
     match p {
-        Plain::Select => select_data(head, session, command, a.lc),
+        Plain::Select => select_data(head, session, command, header.lc),
         Plain::InitializeUpdate => {
             let host = part8(command, 5);
-            initialize_update(head, session, a.p1, host, random)
+            let random = request.random;
+            initialize_update(head, session, header.p1, host, random)
         }
         Plain::ExternalAuthenticate => {
             let body = part16(command, 5);
-            external_authenticate(head, session, a.p1, command, body)
+            external_authenticate(head, session, header.p1, command, body)
         }
         Plain::VerifyPin => {
             let block = part8(command, 5);
             verify_pin(head, session, block)
         }
-        Plain::GetData => get_data(head, session, a.p2),
-        Plain::ReadRecord => read_record(head, session, entry),
+        Plain::GetData => get_data(head, session, header.p2),
+        Plain::ReadRecord => {
+            let found = request.found;
+            read_record(head, session, found)
+        }
     }
 }

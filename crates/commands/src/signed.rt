@@ -13,12 +13,12 @@ use administration::pin_change::unblock_pin;
 use administration::put_data::put_data;
 use administration::put_key::put_key;
 use administration::store_data::store_data;
-use apdu::Apdu;
 use apdu::MAC_SIZE;
 use apdu::Signed;
 use card::Head;
 use channel::cmac;
 use commands_spec::Outcome;
+use objects::Request;
 use objects::refused;
 use octets::part4;
 use octets::part8;
@@ -33,12 +33,11 @@ use transactions::complete_transaction::complete_transaction;
 use transactions::initialize_transaction::initialize_transaction;
 
 // PIN CHANGE/UNBLOCK: a PIN, or no data before the C-MAC.
-fn pin_data(head: Head, session: Session, a: Apdu, command: &[u8]) -> Outcome
-    requires { ⌜ (parsed (now command) ≡ Command a) × (signedLength PinChange (a .lc) ≡ true) ⌝ }
-    ensures { λ r. ⌜ r ≡ pinChangeOf head session (dataOf (now (command .entry)) (a .lc - macSize)) ⌝ }
+fn pin_data(head: Head, session: Session, request: Request, command: &[u8]) -> Outcome
+    requires { ⌜ (parsed (now command) ≡ Command (request .header)) × (signedLength PinChange (request .header .lc) ≡ true) ⌝ }
+    ensures { λ r. ⌜ r ≡ pinChangeOf head session (dataOf (now (command .entry)) (request .header .lc - macSize)) ⌝ }
 {
-    let lc = a.lc;
-    if lc == 8 {
+    if request.header.lc == 8 {
         return unblock_pin(head, session);
     }
     let block = part8(command, 5);
@@ -46,33 +45,48 @@ fn pin_data(head: Head, session: Session, a: Apdu, command: &[u8]) -> Outcome
 }
 
 // Past step 6; `n` bytes of data come before the C-MAC.
-fn signed(g: Signed, head: Head, session: Session, a: Apdu, command: &[u8], n: usize) -> Outcome
-    requires { ⌜ (parsed (now command) ≡ Command a) × (signedLength g (a .lc) ≡ true) × (n ≡ a .lc - macSize) ⌝ }
-    ensures { λ r. ⌜ r ≡ signedOf g head session a (dataOf (now (command .entry)) (a .lc - macSize)) ⌝ }
+fn signed(
+    g: Signed,
+    head: Head,
+    session: Session,
+    request: Request,
+    command: &[u8],
+    n: usize,
+) -> Outcome
+    requires { ⌜ (parsed (now command) ≡ Command (request .header)) × (signedLength g (request .header .lc) ≡ true)
+        × (n ≡ request .header .lc - macSize) ⌝ }
+    ensures { λ r. ⌜ r ≡ signedOf g head session (request .header) (dataOf (now (command .entry)) (request .header .lc - macSize)) ⌝ }
 {
+    let header = request.header;
     match g {
         Signed::PutKey => {
             let keys = part48(command, 5);
-            put_key(head, session, a.p2, keys)
+            put_key(head, session, header.p2, keys)
         }
-        Signed::PinChange => pin_data(head, session, a, command),
+        Signed::PinChange => pin_data(head, session, request, command),
         Signed::StoreData => store_data(head, session, &command[5..5 + n]),
         Signed::InitializeTransaction => {
             let body = part4(command, 5);
-            initialize_transaction(head, session, a.p1, body)
+            initialize_transaction(head, session, header.p1, body)
         }
         Signed::CompleteTransaction => {
             let context = part16(command, 5);
             complete_transaction(head, session, context)
         }
-        Signed::PutData => put_data(head, session, a.p2, &command[5..5 + n]),
+        Signed::PutData => put_data(head, session, header.p2, &command[5..5 + n]),
     }
 }
 
 // Step 6: a channel, and a right C-MAC, which moves the chain on.
-pub fn authorized(g: Signed, head: Head, session: Session, a: Apdu, command: &[u8]) -> Outcome
-    requires { ⌜ (parsed (now command) ≡ Command a) × (signedLength g (a .lc) ≡ true) ⌝ }
-    ensures { λ r. ⌜ r ≡ authorized g head session a (now (command .entry)) ⌝ }
+pub fn authorized(
+    g: Signed,
+    head: Head,
+    session: Session,
+    request: Request,
+    command: &[u8],
+) -> Outcome
+    requires { ⌜ (parsed (now command) ≡ Command (request .header)) × (signedLength g (request .header .lc) ≡ true) ⌝ }
+    ensures { λ r. ⌜ r ≡ authorized g head session (request .header) (now (command .entry)) ⌝ }
 {
     let channel = session.channel;
     let level = channel.level;
@@ -81,11 +95,11 @@ pub fn authorized(g: Signed, head: Head, session: Session, a: Apdu, command: &[u
     if !is_open(level) {
         return refused(head, closed(session), 0x6982);
     }
-    let n = (a.lc - MAC_SIZE) as usize;
+    let n = (request.header.lc - MAC_SIZE) as usize;
     let mac = cmac(key, start, command, 5 + n);
     let sent = part8(command, 5 + n);
     if !same(&sent, &mac) {
         return refused(head, closed(session), 0x6982);
     }
-    signed(g, head, chained(mac, session), a, command, n)
+    signed(g, head, chained(mac, session), request, command, n)
 }

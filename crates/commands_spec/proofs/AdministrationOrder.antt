@@ -212,21 +212,21 @@ module _ (c : Card) (s : Session) (set : Set) (p : ℕ) (l : Level) (le random :
   module _ (number : ℕ) (keys : KeySet) (m : Numbered (c .head) keys number set) where
     -- PIN CHANGE
     pub pin-change-order : (body : List ℕ) → length body ≡ 8
-        → pinChangeRules set (keys .dek) body (respond c s (signedCommand s 0x84 0x24 0x00 0x00 body le) random .status)
+        → pinChangeRules set (keys .keys .dek) body (respond c s (signedCommand s 0x84 0x24 0x00 0x00 body le) random .status)
     unfolding instruction of84 are signedParameters signedLength signedOf pinChangeOf pinStatus done chained received
     pin-change-order body long =
         let a = set-access set p l v in
         let k = admin-tells set in
         let q : signedLength PinChange (length body + 8) ≡ true = rw long in
-        let z = pin-tells (keys .dek) body long in
+        let z = pin-tells (keys .keys .dek) body long in
         rw (reaches-signed c s random PinChange l 0x84 0x24 0x00 0x00 body le short o refl refl q (a .1), o .level, a .0, long, set-dek m v)
-        (subst (pinChangeRules set (keys .dek) body) (sym (judged-word _ _ _ _ refl))
+        (subst (pinChangeRules set (keys .keys .dek) body) (sym (judged-word _ _ _ _ refl))
         (row (ltb (accessOf set) ADMIN) 0x6982 _ (k .0) (k .1)
-        (lacking (wellFormed (ecbText decipher (keys .dek) body)) 0x6A80 _ (z .0) (z .1) accepted)))
+        (lacking (wellFormed (ecbText decipher (keys .keys .dek) body)) 0x6A80 _ (z .0) (z .1) accepted)))
 
     -- PUT DATA of a tag of the table
     pub put-data-order : (tag : ℕ) (sent : List ℕ) → KnownTag tag → AreBytes sent
-        → putDataRules (c .head) set (keys .dek) tag sent (respond c s (signedCommand s 0x84 0xDA 0x02 tag sent le) random .status)
+        → putDataRules (c .head) set (keys .keys .dek) tag sent (respond c s (signedCommand s 0x84 0xDA 0x02 tag sent le) random .status)
     unfolding instruction of84 signedParameters signedLength signedOf putDataOf putDataStatus dataStatus done chained
     put-data-order tag sent known bytes =
         let a = set-access set p l v in
@@ -236,19 +236,19 @@ module _ (c : Card) (s : Session) (set : Set) (p : ℕ) (l : Level) (le random :
           o .level,
           a .0,
         )
-        (subst (putDataRules (c .head) set (keys .dek) tag sent) (sym (judged-word _ _ _ _ refl))
+        (subst (putDataRules (c .head) set (keys .keys .dek) tag sent) (sym (judged-word _ _ _ _ refl))
         (unset (c .head .purse .parameters .personalized) 0x6985 _
-        (row (locked tag (c .head .state .balance)) 0x6A81 _ (λ e n. false≢true (sym (unlocked tag (c .head .state .balance) n) ∙ e)) (locked-told tag (c .head .state .balance) known)
+        (row (locked tag (c .head .purse .balance)) 0x6A81 _ (λ e n. false≢true (sym (unlocked tag (c .head .purse .balance) n) ∙ e)) (locked-told tag (c .head .purse .balance) known)
         (row (ltb (accessOf set) ADMIN) 0x6982 _ (k .0) (k .1)
-        (lacking (valueOk tag sent) 0x6A80 _ (value-only (keys .dek) tag sent bytes) (λ w. value-taken (keys .dek) (w .value))
-        (row (undercuts tag (wordAt sent 0) (c .head .state .balance) (c .head .state .number)) 0x6A80 _
-        (λ e n. false≢true (sym (above tag (wordAt sent 0) (c .head .state .balance) (c .head .state .number) n) ∙ e))
-        (undercut-told tag (wordAt sent 0) (c .head .state .balance) (c .head .state .number))
+        (lacking (valueOk tag sent) 0x6A80 _ (value-only (keys .keys .dek) tag sent bytes) (λ w. value-taken (keys .keys .dek) (w .value))
+        (row (undercuts tag (wordAt sent 0) (c .head .purse .balance) (c .head .state .number)) 0x6A80 _
+        (λ e n. false≢true (sym (above tag (wordAt sent 0) (c .head .purse .balance) (c .head .state .number) n) ∙ e))
+        (undercut-told tag (wordAt sent 0) (c .head .purse .balance) (c .head .state .number))
         accepted))))))
 
     -- STORE DATA
     pub store-data-order : (body : List ℕ) → AreBytes body
-        → storeRules (c .head) set (keys .dek) body (respond c s (signedCommand s 0x84 0xE2 0x80 0x00 body le) random .status)
+        → storeRules (c .head) set (keys .keys .dek) body (respond c s (signedCommand s 0x84 0xE2 0x80 0x00 body le) random .status)
     unfolding instruction of84 are signedParameters signedLength signedOf storeDataOf storeStatus done chained
     store-data-order body bytes =
         let a = set-access set p l v in
@@ -259,8 +259,8 @@ module _ (c : Card) (s : Session) (set : Set) (p : ℕ) (l : Level) (le random :
           a .0,
           set-dek m v,
         )
-        (subst (storeRules (c .head) set (keys .dek) body) (sym (judged-word _ _ _ _ refl))
+        (subst (storeRules (c .head) set (keys .keys .dek) body) (sym (judged-word _ _ _ _ refl))
         (row (c .head .purse .parameters .personalized || not (c .head .purse .debit .defined && c .head .purse .credit .defined)) 0x6985 _
         (λ e n. false≢true (sym (storable-passes _ _ _ n) ∙ e)) (storable-told _ _ _)
         (row (ltb (accessOf set) ADMIN) 0x6982 _ (k .0) (k .1)
-        (tlv-rows (c .head) (keys .dek) body bytes))))
+        (tlv-rows (c .head) (keys .keys .dek) body bytes))))

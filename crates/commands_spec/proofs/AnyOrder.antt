@@ -14,7 +14,7 @@ use Rattle.octets.specs.Words.{wordAt}
 use Rattle.octets.proofs.Rules.{passed, pick-holds}
 use Rattle.card.specs.declared.head.Head.{Head}
 use Rattle.card.specs.Card.{Card}
-use Rattle.card.specs.Changes.{parameters, changed}
+use Rattle.card.specs.Changes.{coldChange, changed, headAfter, logAfter, after}
 use Rattle.session.specs.declared.Set.{Set}
 use Rattle.session.specs.declared.Level.{Level}
 use Rattle.session.specs.declared.Session.{Session}
@@ -25,18 +25,19 @@ use Rattle.apdu.specs.Instructions.{instruction, of84}
 use Rattle.apdu.specs.Parameters.{are, signedParameters}
 use Rattle.apdu.specs.Lengths.{signedLength}
 use Rattle.commands_spec.specs.declared.store.Stored.{Stored}
-use Rattle.commands_spec.specs.declared.outcome.Effect.the-variants.{ParametersOnly}
+use Rattle.commands_spec.specs.declared.outcome.Commits.the-variants.{HotAndCold}
 use Rattle.commands_spec.specs.declared.outcome.Outcome.{Outcome}
-use Rattle.commands_spec.specs.Outcomes.{refused, done, decided, changesOf, after}
-use Rattle.commands_spec.specs.Updates.{withParameters, withMaxnumber, dekOf}
+use Rattle.commands_spec.specs.Outcomes.{refused, done, decided, changesOf, commitsOf}
+use Rattle.card.specs.Updates.{withState, withBalance, withParameters, withMaxnumber, withPurse}
+use Rattle.commands_spec.specs.KeySets.{dekOf}
 use Rattle.commands_spec.specs.Data.{valueOk, parameterSet, datumSet}
-use Rattle.commands_spec.specs.StoreData.{spoiled, unread, acceptable, stored, complete, storeStatus, personalized, storeDataOf}
+use Rattle.commands_spec.specs.StoreData.{rejected, unread, acceptable, stored, complete, storeStatus, personalized, storeDataOf}
 use Rattle.commands_spec.specs.Respond.{signedOf, respond, cardAfter}
 use Rattle.commands_spec.specs.Sent.{nextMac, signedText, signedCommand}
 use Rattle.commands_spec.specs.Allowed.{LevelOf, with-cmac, with-rmac}
 use Rattle.commands_spec.specs.Values.{Tlv, flat}
 use Rattle.commands_spec.proofs.Sending.{InChannel, reaches-signed}
-use Rattle.commands_spec.proofs.Tlvs.{storedList, flat-within, flat-stored, stays-spoiled, refused-spoils, fits, taken, taken-is, fits-below}
+use Rattle.commands_spec.proofs.Tlvs.{storedList, flat-within, flat-stored, stays-rejected, refused-spoils, fits, taken, taken-is, fits-below}
 
 -- ---- values under different tags
 
@@ -52,7 +53,7 @@ module _ (dek : List ℕ) (t u : ℕ) (v w : List ℕ) (apart : t ≡ u → ⊥)
 
   -- it doesn't matter which is set first
   pub set-either : (h : Head) → datumSet dek t v (datumSet dek u w h) ≡ datumSet dek u w (datumSet dek t v h)
-  unfolding datumSet withMaxnumber withParameters parameterSet
+  unfolding datumSet withMaxnumber withParameters withPurse parameterSet
   set-either h = go (eqb t 0x05) (eqb u 0x05) (never 0x05)
     where
       go : (p q : Bool) → (p ≡ true → q ≡ true → ⊥)
@@ -80,15 +81,15 @@ module _ (dek : List ℕ) (t u : ℕ) (v w : List ℕ) (apart : t ≡ u → ⊥)
 -- the same has been read, or something was refused either way
 pub data Alike (a b : Stored) : Type 0 where
   equal : a ≡ b → Alike a b
-  both-spoiled : a .good ≡ false → b .good ≡ false → Alike a b
+  both-rejected : a .good ≡ false → b .good ≡ false → Alike a b
 
 module _ (dek : List ℕ) where
   list-alike : (xs : List Tlv) (a b : Stored) → Alike a b → Alike (storedList dek xs a) (storedList dek xs b)
   unfolding storedList
   list-alike [] a b r = r
   list-alike (x ∷ xs) a b (equal e) = equal (ap (λ (st : Stored). storedList dek xs (stored dek st (x .tag) (x .sent))) e)
-  list-alike (x ∷ xs) a b (both-spoiled p q) =
-      list-alike xs _ _ (both-spoiled (stays-spoiled dek a x p) (stays-spoiled dek b x q))
+  list-alike (x ∷ xs) a b (both-rejected p q) =
+      list-alike xs _ _ (both-rejected (stays-rejected dek a x p) (stays-rejected dek b x q))
 
   module _ (st : Stored) (eight : length (st .seen) ≡ 8) where
     -- behind another tag a TLV is as acceptable as before
@@ -115,7 +116,7 @@ module _ (dek : List ℕ) where
             → stored dek (stored dek st (a .tag) (a .sent)) (b .tag) (b .sent) .good ≡ false
         go true p true r = rw (taken-is dek st eight a p) (refused-spoils dek (taken dek st eight a) b (same-tag a b (eqb-true _ _ r) (fits-below dek st eight a p)))
         go true p false r = rw (taken-is dek st eight a p) (refused-spoils dek (taken dek st eight a) b (other-tag a b (eqb-false _ _ r) ∙ e))
-        go false p r g = stays-spoiled dek (stored dek st (a .tag) (a .sent)) b (refused-spoils dek st a p)
+        go false p r g = stays-rejected dek (stored dek st (a .tag) (a .sent)) b (refused-spoils dek st a p)
 
     -- two that are acceptable, under different tags
     abbrev both : Tlv → Tlv → Stored
@@ -145,11 +146,11 @@ module _ (dek : List ℕ) where
       where
         go : (p : Bool) → fits dek st eight a ≡ p → (q : Bool) → fits dek st eight b ≡ q → (r : Bool) → eqb (a .tag) (b .tag) ≡ r
             → Alike (stored dek (stored dek st (a .tag) (a .sent)) (b .tag) (b .sent)) (stored dek (stored dek st (b .tag) (b .sent)) (a .tag) (a .sent))
-        go false p q f r g = both-spoiled (stays-spoiled dek (stored dek st (a .tag) (a .sent)) b (refused-spoils dek st a p)) (refused-later b a p)
-        go true p false f r g = both-spoiled (refused-later a b f) (stays-spoiled dek (stored dek st (b .tag) (b .sent)) a (refused-spoils dek st b f))
+        go false p q f r g = both-rejected (stays-rejected dek (stored dek st (a .tag) (a .sent)) b (refused-spoils dek st a p)) (refused-later b a p)
+        go true p false f r g = both-rejected (refused-later a b f) (stays-rejected dek (stored dek st (b .tag) (b .sent)) a (refused-spoils dek st b f))
         go true p true f true g =
             let e : a .tag ≡ b .tag = eqb-true _ _ g in
-            both-spoiled (rw (taken-is dek st eight a p) (refused-spoils dek (taken dek st eight a) b (same-tag a b e (fits-below dek st eight a p))))
+            both-rejected (rw (taken-is dek st eight a p) (refused-spoils dek (taken dek st eight a) b (same-tag a b e (fits-below dek st eight a p))))
             (rw (taken-is dek st eight b f) (refused-spoils dek (taken dek st eight b) a (same-tag b a (sym e) (fits-below dek st eight b f))))
         go true p true f false g =
             let n : a .tag ≡ b .tag → ⊥ = eqb-false _ _ g in
@@ -159,7 +160,7 @@ module _ (dek : List ℕ) where
 
   -- the marks of what came stay eight
   stored-eight : (st : Stored) (x : Tlv) → length (st .seen) ≡ 8 → length (stored dek st (x .tag) (x .sent) .seen) ≡ 8
-  unfolding stored spoiled
+  unfolding stored rejected
   stored-eight st x e =
       pick-holds (λ (y : Stored). length (y .seen) ≡ 8) (acceptable (st .seen) (x .tag) (x .sent)) _ _ (λ t. length-set (st .seen) (x .tag) 1 ∙ e) (λ t. e)
 
@@ -172,9 +173,9 @@ module _ (dek : List ℕ) where
 -- ---- the command
 
 -- something refused gives 6A80 or an earlier word
-spoiled-word : (p k : Bool) (level : ℕ) (inside good done : Bool) → good ≡ false → storeStatus p k level inside (good && done) ≡ 0x9000 → ⊥
+rejected-word : (p k : Bool) (level : ℕ) (inside good done : Bool) → good ≡ false → storeStatus p k level inside (good && done) ≡ 0x9000 → ⊥
 unfolding storeStatus
-spoiled-word p k level inside good done n e =
+rejected-word p k level inside good done n e =
     let a = passed (p || not k) 0x6985 _ 0x9000 e (λ z. omega arith) in
     let b = passed (ltb level ADMIN) 0x6982 _ 0x9000 (a .1) (λ z. omega arith) in
     let d = passed (not inside) 0x6A85 _ 0x9000 (b .1) (λ z. omega arith) in
@@ -190,18 +191,18 @@ module _ (c : Card) (level : Level) where
 
   -- and the card
   abbrev leaves : Stored → Card
-  leaves st = pick (eqb (storeWord st) 0x9000) (changed (parameters (personalized (st .head))) c) c
+  leaves st = pick (eqb (storeWord st) 0x9000) (changed (coldChange (personalized (st .head))) c) c
 
   alike-words : (a b : Stored) → Alike a b → storeWord a ≡ storeWord b
   alike-words a b (equal e) = ap storeWord e
-  alike-words a b (both-spoiled p q) = rw (p, q)
+  alike-words a b (both-rejected p q) = rw (p, q)
 
-  spoiled-card : (st : Stored) → st .good ≡ false → leaves st ≡ c
-  spoiled-card st e = rw (ne-eqb (storeWord st) 0x9000 (spoiled-word _ _ _ _ (st .good) (complete (st .seen)) e))
+  rejected-card : (st : Stored) → st .good ≡ false → leaves st ≡ c
+  rejected-card st e = rw (ne-eqb (storeWord st) 0x9000 (rejected-word _ _ _ _ (st .good) (complete (st .seen)) e))
 
   alike-cards : (a b : Stored) → Alike a b → leaves a ≡ leaves b
   alike-cards a b (equal e) = ap leaves e
-  alike-cards a b (both-spoiled p q) = spoiled-card a p ∙ sym (spoiled-card b q)
+  alike-cards a b (both-rejected p q) = rejected-card a p ∙ sym (rejected-card b q)
 
 -- the command's word and card are those of the TLVs in their turn
 module _ (c : Card) (t : Session) (xs : List Tlv) where
@@ -210,11 +211,11 @@ module _ (c : Card) (t : Session) (xs : List Tlv) where
 
   -- the card that an outcome leaves
   abbrev left : Outcome → Card
-  left o = after (changesOf (o .effect) (c .head .state) (o .head) (o .entry)) c
+  left o = after (commitsOf o) c
 
   -- and the outcome of a status word
   abbrev pub finish : ℕ → Outcome
-  finish w = decided w (c .head) (ended t) (done ParametersOnly (personalized (read .head)) (ended t) [])
+  finish w = decided w (c .head) (ended t) (done HotAndCold (personalized (read .head)) (ended t) [])
 
   pub read-outcome : storeDataOf (c .head) t (flat xs) ≡ finish (storeWord c (t .channel .level) read)
   unfolding storeDataOf
@@ -228,12 +229,12 @@ module _ (c : Card) (t : Session) (xs : List Tlv) where
   unfolding decided done refused
   finish-word w = pick-holds (λ (o : Outcome). o .status ≡ w) (eqb w 0x9000) _ _ (λ e. sym (eqb-true w 0x9000 e)) (λ e. refl)
 
-  finish-card : (w : ℕ) → left (finish w) ≡ pick (eqb w 0x9000) (changed (parameters (personalized (read .head))) c) c
-  unfolding decided done refused changesOf after changed
+  finish-card : (w : ℕ) → left (finish w) ≡ pick (eqb w 0x9000) (changed (coldChange (personalized (read .head))) c) c
+  unfolding decided done refused commitsOf changesOf after changed headAfter logAfter withState withBalance withPurse
   finish-card w = go (eqb w 0x9000)
     where
-      go : (b : Bool) → left (pick b (done ParametersOnly (personalized (read .head)) (ended t) []) (refused (c .head) (ended t) w))
-          ≡ pick b (changed (parameters (personalized (read .head))) c) c
+      go : (b : Bool) → left (pick b (done HotAndCold (personalized (read .head)) (ended t) []) (refused (c .head) (ended t) w))
+          ≡ pick b (changed (coldChange (personalized (read .head))) c) c
       go true = refl
       go false = refl
 

@@ -36,7 +36,7 @@ use Rattle.apdu.specs.Early.{isSelect}
 use Rattle.channel.specs.Channel.{derivation, sessionKey, cardCryptogram, hostCryptogram, cmacOf}
 use Rattle.commands_spec.specs.declared.outcome.Outcome.{Outcome}
 use Rattle.commands_spec.specs.Outcomes.{refused, done}
-use Rattle.commands_spec.specs.Updates.{keysOf}
+use Rattle.commands_spec.specs.KeySets.{keySetOf}
 use Rattle.commands_spec.specs.InitializeUpdate.{offer, updateAnswer, initializeUpdateOf}
 use Rattle.commands_spec.specs.ExternalAuthenticate.{levelFor, authenticated, externalAuthenticateOf}
 use Rattle.commands_spec.specs.Respond.{plainOf, respond}
@@ -55,7 +55,7 @@ derived key host card = ecbText encipher key (drop 4 card ++ take 4 host ++ take
 -- what it gives: the answer, and a session that differs in what is pending alone
 pub record Offers (s : Session) (n : ℕ) (set : Set) (k : KeySet) (host card : List ℕ) (o : Outcome) : Type 0 where
   pub status : o .status ≡ 0x9000
-  pub reply : content (o .reply) ≡ zeros 10 ++ n ∷ 0x01 ∷ card ++ signature (derived (k .enc) host card) (zeros 8) (host ++ card) ++ word 0x9000
+  pub reply : content (o .reply) ≡ zeros 10 ++ n ∷ 0x01 ∷ card ++ signature (derived (k .keys .enc) host card) (zeros 8) (host ++ card) ++ word 0x9000
   pub session : o .session
       ≡ record {
         selected = s .selected;
@@ -63,15 +63,15 @@ pub record Offers (s : Session) (n : ℕ) (set : Set) (k : KeySet) (host card : 
         channel = s .channel;
         pending = Update set;
         offer = record {
-          enc = derived (k .enc) host card;
-          mac = derived (k .mac) host card;
-          expected = signature (derived (k .enc) host card) (zeros 8) (card ++ host);
+          enc = derived (k .keys .enc) host card;
+          mac = derived (k .keys .mac) host card;
+          expected = signature (derived (k .keys .enc) host card) (zeros 8) (card ++ host);
         };
       }
 
 -- a set's number names its keys
-numbered-keys : (h : Head) (k : KeySet) (n : ℕ) (set : Set) → Numbered h k n set → (setOf n ≡ set) × (keysOf set h ≡ k) × (isSet n ≡ true)
-unfolding setOf keysOf isSet
+numbered-keys : (h : Head) (k : KeySet) (n : ℕ) (set : Set) → Numbered h k n set → (setOf n ≡ set) × (keySetOf set h ≡ k) × (isSet n ≡ true)
+unfolding setOf keySetOf isSet
 numbered-keys h k n set (first e) = (refl, sym e, refl)
 numbered-keys h k n set (second e) = (refl, sym e, refl)
 numbered-keys h k n set (third e) = (refl, sym e, refl)
@@ -93,8 +93,8 @@ update-granted c s n set k host card le m d sel h r short =
       u .0,
       u .1,
       d,
-      derived-is (k .enc) host card h r,
-      derived-is (k .mac) host card h r,
+      derived-is (k .keys .enc) host card h r,
+      derived-is (k .keys .mac) host card h r,
     )
     (record { status = refl; reply = content-holding _; session = refl })
 

@@ -38,8 +38,8 @@ use Rattle.apdu.specs.Early.{isSelect}
 use Rattle.channel.specs.Channel.{received}
 use Rattle.commands_spec.specs.Outcomes.{refused, done, decided}
 use Rattle.commands_spec.specs.Transaction.{notAboveZero, keepsLimits}
-use Rattle.commands_spec.specs.InitializeTransaction.{lacks, entitled, initializeStatus, initializeJudged, initializeTransactionOf}
-use Rattle.commands_spec.specs.CompleteTransaction.{isNoted, isDebit, completeStatus, completeJudged, completeTransactionOf}
+use Rattle.commands_spec.specs.InitializeTransaction.{lacks, entitled, initializeStatus, initializeTransactionOf}
+use Rattle.commands_spec.specs.CompleteTransaction.{isNoted, isDebit, completeStatus, completeTransactionOf}
 use Rattle.commands_spec.specs.VerifyPin.{verifyStatus, judged, verifyPinOf}
 use Rattle.commands_spec.specs.Respond.{plainOf, signedOf, respond}
 use Rattle.commands_spec.specs.Sent.{nextMac, signedText, plainCommand, initialization, completion}
@@ -99,8 +99,8 @@ above-told amount n =
     n (omega arith, leb-false 0x8000 amount (m .1)))
 
 module _ (h : Head) (s : Session) (set : Set) (p : ℕ) (p1 currency amount : ℕ) (v : LevelOf set p (s .channel .level)) (one-of : p1 ≤ 2) where
-  initialize-rows : initializeRules h set p (s .verified) p1 currency amount (initializeJudged h s p1 currency amount)
-  unfolding initializeJudged initializeStatus lacks notAboveZero
+  initialize-rows : initializeRules h set p (s .verified) p1 currency amount (initializeStatus h s p1 currency amount)
+  unfolding initializeStatus lacks notAboveZero
   initialize-rows =
       let q = h .purse .parameters in
       let a = set-access set p (s .channel .level) v in
@@ -114,25 +114,25 @@ module _ (h : Head) (s : Session) (set : Set) (p : ℕ) (p1 currency amount : �
       (row (leb (h .shared .maxnumber) (h .state .number)) 0x9410 _ (leb-true _ _) (le-leb _ _)
       (lacking (eqb currency (q .currency)) 0x9411 _ (eqb-true _ _) (eq-eqb _ _)
       (row (eqb amount 0x0000 || leb 0x8000 amount) 0x9412 _ (above-tells amount) (above-told amount)
-      (row (eqb p1 0x00 && (ltb (q .maxdebit) amount || ltb (h .state .balance) amount)) 0x9413 _ (debit-tells p1 amount _ _) (debit-told p1 amount _ _)
-      (row (not (eqb p1 0x00) && ltb (q .maxbalance) (h .state .balance + amount)) 0x9414 _ (credit-tells p1 _ _) (credit-told p1 _ _)
+      (row (eqb p1 0x00 && (ltb (q .maxdebit) amount || ltb (h .purse .balance) amount)) 0x9413 _ (debit-tells p1 amount _ _) (debit-told p1 amount _ _)
+      (row (not (eqb p1 0x00) && ltb (q .maxbalance) (h .purse .balance + amount)) 0x9414 _ (credit-tells p1 _ _) (credit-told p1 _ _)
       accepted))))))))
 
 -- ---- COMPLETE TRANSACTION
 
-keeps-debit : (h : Head) (amount : ℕ) → (not (leb amount (h .state .balance)) ≡ true → PassesLimit h (Debiting amount))
-    × (PassesLimit h (Debiting amount) → not (leb amount (h .state .balance)) ≡ true)
-keeps-debit h amount = (λ e. below-zero amount (leb-false amount (h .state .balance) (not-true _ e)), back)
+keeps-debit : (h : Head) (amount : ℕ) → (not (leb amount (h .purse .balance)) ≡ true → PassesLimit h (Debiting amount))
+    × (PassesLimit h (Debiting amount) → not (leb amount (h .purse .balance)) ≡ true)
+keeps-debit h amount = (λ e. below-zero amount (leb-false amount (h .purse .balance) (not-true _ e)), back)
   where
-    back : PassesLimit h (Debiting amount) → not (leb amount (h .state .balance)) ≡ true
-    back (below-zero n k) = ap not (lt-leb amount (h .state .balance) k)
+    back : PassesLimit h (Debiting amount) → not (leb amount (h .purse .balance)) ≡ true
+    back (below-zero n k) = ap not (lt-leb amount (h .purse .balance) k)
 
-keeps-credit : (h : Head) (amount : ℕ) → (not (leb (h .state .balance + amount) (h .purse .parameters .maxbalance)) ≡ true → PassesLimit h (Crediting amount))
-    × (PassesLimit h (Crediting amount) → not (leb (h .state .balance + amount) (h .purse .parameters .maxbalance)) ≡ true)
-keeps-credit h amount = (λ e. past-maximum amount (leb-false (h .state .balance + amount) (h .purse .parameters .maxbalance) (not-true _ e)), back)
+keeps-credit : (h : Head) (amount : ℕ) → (not (leb (h .purse .balance + amount) (h .purse .parameters .maxbalance)) ≡ true → PassesLimit h (Crediting amount))
+    × (PassesLimit h (Crediting amount) → not (leb (h .purse .balance + amount) (h .purse .parameters .maxbalance)) ≡ true)
+keeps-credit h amount = (λ e. past-maximum amount (leb-false (h .purse .balance + amount) (h .purse .parameters .maxbalance) (not-true _ e)), back)
   where
-    back : PassesLimit h (Crediting amount) → not (leb (h .state .balance + amount) (h .purse .parameters .maxbalance)) ≡ true
-    back (past-maximum n k) = ap not (lt-leb (h .state .balance + amount) (h .purse .parameters .maxbalance) k)
+    back : PassesLimit h (Crediting amount) → not (leb (h .purse .balance + amount) (h .purse .parameters .maxbalance)) ≡ true
+    back (past-maximum n k) = ap not (lt-leb (h .purse .balance + amount) (h .purse .parameters .maxbalance) k)
 
 nothing-noted : Noted Nothing → ⊥
 nothing-noted n = unnoted Nothing n refl
@@ -148,31 +148,33 @@ update-noted set n = unnoted (Update set) n refl
     unnoted q (a-debit amount) e = let z : _≡_ {A = ℕ} 0 1 = cc in omega arith
     unnoted q (a-credit amount) e = let z : _≡_ {A = ℕ} 0 1 = cc in omega arith
 
-complete-rows : (h : Head) (l : Level) (set : Set) (p : ℕ) (pending : Pending) → LevelOf set p l
-    → completeRules h p pending
-    (completeStatus (h .purse .parameters .personalized) (isNoted pending) (hasRmac l)
-    (keepsLimits (isDebit pending) (amountOf pending) (h .state .balance) (h .purse .parameters .maxbalance)) (h .state .number) (h .shared .maxnumber))
+complete-rows : (h : Head) (s : Session) (set : Set) (p : ℕ) → LevelOf set p (s .channel .level) → (pending : Pending) → s .pending ≡ pending
+    → completeRules h p pending (completeStatus h s)
 unfolding completeStatus isNoted isDebit amountOf keepsLimits
-complete-rows h l set p Nothing v = unset (h .purse .parameters .personalized) 0x6985 _ (refuses nothing-noted)
-complete-rows h l set p (Update other) v = unset (h .purse .parameters .personalized) 0x6985 _ (refuses (update-noted other))
-complete-rows h l set p (Debiting amount) v =
+complete-rows h s set p v Nothing e = rw e (unset (h .purse .parameters .personalized) 0x6985 _ (refuses nothing-noted))
+complete-rows h s set p v (Update other) e = rw e (unset (h .purse .parameters .personalized) 0x6985 _ (refuses (update-noted other)))
+complete-rows h s set p v (Debiting amount) e =
+    let l = s .channel .level in
     let m = rmac-level set p l v in
     let k = keeps-debit h amount in
-    unset (h .purse .parameters .personalized) 0x6985 _
+    rw e
+    (unset (h .purse .parameters .personalized) 0x6985 _
     (passes (λ n. n (a-debit amount))
     (lacking (hasRmac l) 0x6982 _ (m .0) (m .1)
     (row (leb (h .shared .maxnumber) (h .state .number)) 0x6985 _ (leb-true _ _) (le-leb _ _)
-    (row (not (leb amount (h .state .balance))) 0x6985 _ (k .0) (k .1)
-    accepted))))
-complete-rows h l set p (Crediting amount) v =
+    (row (not (leb amount (h .purse .balance))) 0x6985 _ (k .0) (k .1)
+    accepted)))))
+complete-rows h s set p v (Crediting amount) e =
+    let l = s .channel .level in
     let m = rmac-level set p l v in
     let k = keeps-credit h amount in
-    unset (h .purse .parameters .personalized) 0x6985 _
+    rw e
+    (unset (h .purse .parameters .personalized) 0x6985 _
     (passes (λ n. n (a-credit amount))
     (lacking (hasRmac l) 0x6982 _ (m .0) (m .1)
     (row (leb (h .shared .maxnumber) (h .state .number)) 0x6985 _ (leb-true _ _) (le-leb _ _)
-    (row (not (leb (h .state .balance + amount) (h .purse .parameters .maxbalance))) 0x6985 _ (k .0) (k .1)
-    accepted))))
+    (row (not (leb (h .purse .balance + amount) (h .purse .parameters .maxbalance))) 0x6985 _ (k .0) (k .1)
+    accepted)))))
 
 -- ---- VERIFY PIN
 
@@ -245,13 +247,11 @@ module _ (c : Card) (s : Session) (set : Set) (p : ℕ) (l : Level) (le random :
   -- COMPLETE TRANSACTION
   pub complete-order : (context : List ℕ) → length context ≡ 16
       → completeRules (c .head) p (s .pending) (respond c s (completion s context le) random .status)
-  unfolding instruction of94 are signedParameters signedLength signedOf completeTransactionOf completeJudged chained
+  unfolding instruction of94 are signedParameters signedLength signedOf completeTransactionOf chained
   complete-order context long =
-      rw (
-        reaches-signed c s random CompleteTransaction l 0x94 0x46 0x00 0x00 context le short o refl refl (rw long) (set-access set p l v .1),
-        o .level,
-      )
-      (subst (completeRules (c .head) p (s .pending)) (sym (judged-word _ _ _ _ refl)) (complete-rows (c .head) l set p (s .pending) v))
+      let t = chained (nextMac s (signedText 0x94 0x46 0x00 0x00 context)) s in
+      rw (reaches-signed c s random CompleteTransaction l 0x94 0x46 0x00 0x00 context le short o refl refl (rw long) (set-access set p l v .1))
+      (subst (completeRules (c .head) p (s .pending)) (sym (judged-word _ _ _ _ refl)) (complete-rows (c .head) t set p at-level (s .pending) refl))
 
 -- VERIFY PIN, in any session
 pub verify-order : (c : Card) (s : Session) (body le random : List ℕ) → s .selected ≡ true → length body ≡ 8 → length le ≤ 1

@@ -12,7 +12,9 @@ use lib.ListN.{length, getD, length-append}
 use Rattle.octets.specs.Bytes.{byteAt}
 use Rattle.octets.proofs.Rules.{pick-holds}
 use Rattle.card.specs.declared.head.Head.{Head}
-use Rattle.card.specs.Card.{Card, void}
+use Rattle.card.specs.declared.log.Record.{Record}
+use Rattle.card.specs.Log.{void}
+use Rattle.card.specs.Card.{Card}
 use Rattle.session.specs.declared.Set.{Set}
 use Rattle.session.specs.declared.Pending.the-variants.{Update}
 use Rattle.session.specs.declared.Session.{Session}
@@ -203,7 +205,7 @@ module _ (c : Card) (s : Session) (command random : List ℕ) (P : Outcome → T
   abbrev H : Head
   H = c .head
 
-  abbrev R : List ℕ
+  abbrev R : Record
   R = getD (c .log) (asked command) void
 
   -- a plain command that steps 3 to 5 refuse is neither SELECT nor EXTERNAL AUTHENTICATE past them

@@ -8,7 +8,7 @@ use Rattle.des_spec.specs.Des.{encipher}
 use Rattle.des_spec.specs.Modes.{ecbText}
 use Rattle.des_spec.proofs.Texts.{length-ecbText}
 use Rattle.card.specs.Card.{Card}
-use Rattle.card.specs.Changes.{changed}
+use Rattle.card.specs.Changes.{changed, headAfter, logAfter, purseAfter, after}
 use Rattle.card.specs.Pin.{blockOf, Digits}
 use Rattle.card.proofs.Pins.{block-bytes, block-formed}
 use Rattle.session.specs.declared.Set.the-variants.{Admin}
@@ -20,9 +20,9 @@ use Rattle.apdu.specs.Instructions.{instruction, of84}
 use Rattle.apdu.specs.Parameters.{are, signedParameters}
 use Rattle.apdu.specs.Lengths.{signedLength}
 use Rattle.channel.proofs.Results.{received-back}
-use Rattle.commands_spec.specs.declared.outcome.Effect.the-variants.{StateOnly, StateAndParameters}
-use Rattle.commands_spec.specs.Outcomes.{done, decided, changesOf, after}
-use Rattle.commands_spec.specs.Updates.{withState, withTries, withPin}
+use Rattle.commands_spec.specs.declared.outcome.Commits.the-variants.{Hot, HotAndCold}
+use Rattle.commands_spec.specs.Outcomes.{done, decided, changesOf, commitsOf}
+use Rattle.card.specs.Updates.{withState, withTries, withPin, withBalance, withPurse}
 use Rattle.commands_spec.specs.PinChange.{pinStatus, pinChangeOf}
 use Rattle.commands_spec.specs.Respond.{signedOf, respond, cardAfter}
 use Rattle.commands_spec.specs.Sent.{nextMac, signedText, signedCommand}
@@ -39,7 +39,7 @@ module _ (c : Card) (s : Session) (p1 : ℕ) (l : Level) (le random : List ℕ) 
 
   module _ (defined : c .head .pin .defined ≡ true) where
     unblock-outcome : respond c s (signedCommand s 0x84 0x24 0x00 0x00 [] le) random
-        ≡ done StateOnly (withTries (c .head .fixed .maxtries) (c .head)) (flagged false (moved [])) []
+        ≡ done Hot (withTries (c .head .fixed .maxtries) (c .head)) (flagged false (moved [])) []
     unfolding instruction of84 are signedParameters signedLength signedOf pinChangeOf pinStatus decided chained
     unblock-outcome =
         let a = admin-channel p1 l (c .head) admin in
@@ -54,7 +54,7 @@ module _ (c : Card) (s : Session) (p1 : ℕ) (l : Level) (le random : List ℕ) 
     unblock-unflags = rw unblock-outcome
 
     pub unblock-fills : cardAfter c s (signedCommand s 0x84 0x24 0x00 0x00 [] le) random ≡ triesLeft (c .head .fixed .maxtries) c
-    unfolding cardAfter done changesOf after changed withTries withState triesLeft
+    unfolding cardAfter done commitsOf changesOf after changed headAfter logAfter withTries withState withBalance withPurse triesLeft
     unblock-fills = rw unblock-outcome
 
   -- ---- PIN CHANGE, with the block of the new PIN under DEK
@@ -64,7 +64,7 @@ module _ (c : Card) (s : Session) (p1 : ℕ) (l : Level) (le random : List ℕ) 
     sent = ecbText encipher (c .head .shared .admin .dek) (blockOf digits)
 
     change-outcome : respond c s (signedCommand s 0x84 0x24 0x00 0x00 sent le) random
-        ≡ done StateAndParameters (withPin (blockOf digits) (c .head)) (flagged false (moved sent)) []
+        ≡ done HotAndCold (withPin (blockOf digits) (c .head)) (flagged false (moved sent)) []
     unfolding instruction of84 are signedParameters signedLength signedOf pinChangeOf pinStatus decided chained
     change-outcome =
         let a = admin-channel p1 l (c .head) admin in
@@ -91,5 +91,5 @@ module _ (c : Card) (s : Session) (p1 : ℕ) (l : Level) (le random : List ℕ) 
 
     -- the PIN is that of the digits, and the tries are full
     pub change-sets : cardAfter c s (signedCommand s 0x84 0x24 0x00 0x00 sent le) random ≡ pinSet (blockOf digits) (triesLeft (c .head .fixed .maxtries) c)
-    unfolding cardAfter done changesOf after changed withPin triesLeft pinSet
+    unfolding cardAfter done commitsOf changesOf after changed headAfter logAfter purseAfter withPin triesLeft pinSet
     change-sets = rw change-outcome

@@ -18,7 +18,8 @@ use Rattle.octets.proofs.Parts.{part-part, part-between}
 use Rattle.octets.proofs.Rules.{and-yes, and-right, pick-holds}
 use Rattle.des_spec.specs.Modes.{signature}
 use Rattle.card.specs.declared.head.Head.{Head}
-use Rattle.card.specs.Card.{Card, void}
+use Rattle.card.specs.Log.{void}
+use Rattle.card.specs.Card.{Card}
 use Rattle.session.specs.declared.Set.{Set}
 use Rattle.session.specs.declared.Level.the-variants.{Closed, Mac, Rmac}
 use Rattle.session.specs.declared.Channel.{Channel}
@@ -43,7 +44,7 @@ use Rattle.apdu.proofs.Shapes.{header}
 use Rattle.commands_spec.specs.declared.outcome.Outcome.{Outcome}
 use Rattle.commands_spec.specs.Outcomes.{refused, done, decided}
 use Rattle.commands_spec.specs.Words.{isOne}
-use Rattle.commands_spec.specs.Updates.{keysOf}
+use Rattle.commands_spec.specs.KeySets.{keySetOf}
 use Rattle.commands_spec.specs.Select.{selectOf}
 use Rattle.commands_spec.specs.InitializeUpdate.{initializeUpdateOf}
 use Rattle.commands_spec.specs.ExternalAuthenticate.{levelFor, authenticated, externalAuthenticateOf}
@@ -359,7 +360,7 @@ module _ (c : Card) (s : Session) (command random : List ℕ) where
   unfolding selectOf done refused reselected
   selects lc f =
       let x = select-bytes lc f in
-      pick-holds A (same (dataOf command lc) (take (H .fixed .aidlen) (H .fixed .aid))) _ _
+      pick-holds A (same (dataOf command lc) (take (H .purse .aid .size) (H .purse .aid .bytes))) _ _
       (λ t. reselects x _ (record { selected = inl (refl, refl); flag = refl; channel = refl; pending = refl }))
       (λ t. reselects x _ (record { selected = inr (refl, refl); flag = refl; channel = refl; pending = refl }))
 
@@ -430,7 +431,7 @@ module _ (c : Card) (s : Session) (command random : List ℕ) where
   plain-after Select lc f = selects lc f
   plain-after InitializeUpdate lc f =
       let u = apart InitializeUpdate (f .names) (λ e. let z : _≡_ {A = ℕ} 0 1 = cc in omega arith) (λ e. let z : _≡_ {A = ℕ} 0 1 = cc in omega arith) in
-      pick-holds A (not (keysOf (setOf (byteAt command 2)) H .defined)) _ _ (λ t. kept _ u refl) (λ t. kept _ u refl)
+      pick-holds A (not (keySetOf (setOf (byteAt command 2)) H .defined)) _ _ (λ t. kept _ u refl) (λ t. kept _ u refl)
   plain-after ExternalAuthenticate lc f = authenticates lc f (s .pending) refl
   plain-after VerifyPin lc f =
       let u = apart VerifyPin (f .names) (λ e. let z : _≡_ {A = ℕ} 0 1 = cc in omega arith) (λ e. let z : _≡_ {A = ℕ} 0 1 = cc in omega arith) in

@@ -13,7 +13,8 @@ use Rattle.octets.specs.Bytes.{byteAt}
 use Rattle.octets.specs.Words.{word}
 use Rattle.octets.specs.Buffers.{content}
 use Rattle.octets.proofs.Holding.{content-holding}
-use Rattle.card.specs.Card.{Card, void}
+use Rattle.card.specs.Log.{void}
+use Rattle.card.specs.Card.{Card}
 use Rattle.session.specs.declared.Pending.the-variants.{Nothing}
 use Rattle.session.specs.declared.Session.{Session}
 use Rattle.session.specs.Transitions.{ended}
@@ -29,7 +30,7 @@ use Rattle.apdu.proofs.Table.{PlainCode, SignedCode, Class, PlainP1P2, SignedP1
 use Rattle.apdu.proofs.Shapes.{header, header-is, Shape, by-shape, parsed-bare, parsed-full}
 use Rattle.apdu.proofs.Order.{Decides, Selected, one-word, plain-order, signed-order}
 use Rattle.commands_spec.specs.declared.outcome.Outcome.{Outcome}
-use Rattle.commands_spec.specs.declared.outcome.Effect.the-variants.{Unchanged}
+use Rattle.commands_spec.specs.declared.outcome.Commits.the-variants.{Unchanged}
 use Rattle.commands_spec.specs.Outcomes.{refused, decided}
 use Rattle.commands_spec.specs.ReadRecord.{asked}
 use Rattle.commands_spec.specs.Respond.{onInstruction, onParsed, respondTo, respond}
@@ -43,7 +44,7 @@ dataCount command = pick (ltb (length command) 6) 0 (byteAt command 4)
 pub record Refused (s : Session) (w : ℕ) (o : Outcome) : Type 0 where
   pub status : o .status ≡ w
   pub answer : content (o .reply) ≡ word w
-  pub effect : o .effect ≡ Unchanged
+  pub commits : o .commits ≡ Unchanged
   pub selected : o .session .selected ≡ s .selected
   pub verified : o .session .verified ≡ s .verified
   pub channel : o .session .channel ≡ s .channel
@@ -70,7 +71,7 @@ module _ (c : Card) (s : Session) (command random : List ℕ) where
   refuses : (w : ℕ) → Refused s w (refused (c .head) (ended s) w)
   unfolding refused ended
   refuses w =
-      record { status = refl; answer = content-holding (word w); effect = refl; selected = refl; verified = refl; channel = refl; pending = refl }
+      record { status = refl; answer = content-holding (word w); commits = refl; selected = refl; verified = refl; channel = refl; pending = refl }
 
   counted : Formed command → parsed command ≡ headed command (dataCount command)
   counted (bare h k) = rw (lt-ltb (length command) 6 (omega arith)) (parsed-bare command h k)

@@ -20,8 +20,9 @@ use Rattle.des_spec.specs.Modes.{cbcText, signature}
 use Rattle.des_spec.proofs.Signature.{length-signature}
 use Rattle.card.specs.declared.head.KeySet.{KeySet}
 use Rattle.card.specs.declared.head.Head.{Head}
+use Rattle.card.specs.Log.{recordBytes}
 use Rattle.card.specs.Card.{Card}
-use Rattle.card.specs.Changes.{entry, changed}
+use Rattle.card.specs.Changes.{loggedChange, changed, headAfter, logAfter, after}
 use Rattle.session.specs.declared.Set.{Set}
 use Rattle.session.specs.declared.Level.the-variants.{Rmac}
 use Rattle.session.specs.declared.Pending.{Pending}
@@ -35,19 +36,21 @@ use Rattle.apdu.specs.Instructions.{instruction, of94}
 use Rattle.apdu.specs.Parameters.{are, signedParameters}
 use Rattle.apdu.specs.Lengths.{signedLength}
 use Rattle.channel.specs.Channel.{rmacOf, bankSent}
-use Rattle.commands_spec.specs.declared.outcome.Effect.the-variants.{Unchanged}
+use Rattle.commands_spec.specs.declared.outcome.Commits.the-variants.{Unchanged}
 use Rattle.commands_spec.specs.declared.outcome.Outcome.{Outcome}
-use Rattle.commands_spec.specs.Outcomes.{done, decided, changesOf, after}
-use Rattle.commands_spec.specs.Updates.{withState, dekOf}
+use Rattle.commands_spec.specs.Outcomes.{done, decided, changesOf, commitsOf}
+use Rattle.card.specs.Updates.{withState, withBalance, withPurse}
+use Rattle.commands_spec.specs.KeySets.{dekOf}
 use Rattle.commands_spec.specs.Status.{operational}
 use Rattle.commands_spec.specs.Transaction.{notAboveZero, newBalance, keepsLimits, logAmount}
-use Rattle.commands_spec.specs.InitializeTransaction.{lacks, noted, initializeStatus, initializeJudged, initializeAnswer, initializeTransactionOf}
-use Rattle.commands_spec.specs.CompleteTransaction.{isNoted, isDebit, completeStatus, completeJudged, booked, logRecord, completeAnswer, completeTransactionOf}
+use Rattle.commands_spec.specs.InitializeTransaction.{lacks, noted, initializeStatus, initializeAnswer, initializeTransactionOf}
+use Rattle.commands_spec.specs.CompleteTransaction.{isNoted, isDebit, completeStatus, booked, logRecord, completeAnswer, completeTransactionOf}
 use Rattle.commands_spec.specs.Respond.{signedOf, respond, cardAfter}
 use Rattle.commands_spec.specs.Sent.{signedText, nextMac, initialization, completion}
 use Rattle.commands_spec.specs.Allowed.{Numbered, with-rmac, Entitled, Allows, Completed}
 use Rattle.commands_spec.proofs.Entitled.{entitled-passes}
 use Rattle.commands_spec.proofs.Reasons.{set-dek}
+use Rattle.commands_spec.proofs.Heads.{head-after}
 use Rattle.commands_spec.proofs.Sending.{InChannel, reaches-signed}
 
 -- ---- the rules let pass
@@ -64,8 +67,8 @@ equipped-passes p1 bank pin f =
 
 -- no rule of INITIALIZE TRANSACTION refuses what 01 allows
 judged-allowed : (h : Head) (s : Session) (set : Set) (p1 currency amount : ℕ) → s .channel .level ≡ Rmac set → Entitled p1 set (s .verified)
-    → Allows h p1 currency amount → initializeJudged h s p1 currency amount ≡ 0x9000
-unfolding initializeJudged initializeStatus access hasRmac notAboveZero
+    → Allows h p1 currency amount → initializeStatus h s p1 currency amount ≡ 0x9000
+unfolding initializeStatus access hasRmac notAboveZero
 judged-allowed h s set p1 currency amount l e a =
     rw (
       l,
@@ -80,12 +83,12 @@ judged-allowed h s set p1 currency amount l e a =
     (kind (eqb p1 0x00) refl)
   where
     kind : (d : Bool) → eqb p1 0x00 ≡ d
-        → refuse (d && (ltb (h .purse .parameters .maxdebit) amount || ltb (h .state .balance) amount)) 0x9413
-        (refuse (not d && ltb (h .purse .parameters .maxbalance) (h .state .balance + amount)) 0x9414 0x9000) ≡ 0x9000
+        → refuse (d && (ltb (h .purse .parameters .maxdebit) amount || ltb (h .purse .balance) amount)) 0x9413
+        (refuse (not d && ltb (h .purse .parameters .maxbalance) (h .purse .balance + amount)) 0x9414 0x9000) ≡ 0x9000
     kind true q =
         let m = a .debits (eqb-true p1 0x00 q) in
-        rw (le-ltb (h .purse .parameters .maxdebit) amount (m .0), le-ltb (h .state .balance) amount (m .1))
-    kind false q = rw (le-ltb (h .purse .parameters .maxbalance) (h .state .balance + amount) (a .credits (eqb-false p1 0x00 q)))
+        rw (le-ltb (h .purse .parameters .maxdebit) amount (m .0), le-ltb (h .purse .balance) amount (m .1))
+    kind false q = rw (le-ltb (h .purse .parameters .maxbalance) (h .purse .balance + amount) (a .credits (eqb-false p1 0x00 q)))
 
 -- what is noted, and of which kind
 noted-is : (b : Bool) (amount : ℕ) → let p = pick b (Debiting amount) (Crediting amount) in (isNoted p ≡ true) × (isDebit p ≡ b) × (amountOf p ≡ amount)
@@ -102,11 +105,11 @@ limits-kept false amount balance maxbalance f g = le-leb (balance + amount) maxb
 
 -- COMPLETE TRANSACTION lets the same amount pass in a session that notes it
 noted-allowed : (h : Head) (t : Session) (set : Set) (p1 currency amount : ℕ) → Allows h p1 currency amount → t .pending ≡ noted p1 amount
-    → t .channel .level ≡ Rmac set → completeJudged h t ≡ 0x9000
-unfolding completeJudged completeStatus hasRmac noted
+    → t .channel .level ≡ Rmac set → completeStatus h t ≡ 0x9000
+unfolding completeStatus hasRmac noted
 noted-allowed h t set p1 currency amount a n l =
     let k = noted-is (eqb p1 0x00) amount in
-    let m = limits-kept (eqb p1 0x00) amount (h .state .balance) (h .purse .parameters .maxbalance) (λ q. a .debits (eqb-true p1 0x00 q) .1) (λ q. a .credits (eqb-false p1 0x00 q)) in
+    let m = limits-kept (eqb p1 0x00) amount (h .purse .balance) (h .purse .parameters .maxbalance) (λ q. a .debits (eqb-true p1 0x00 q) .1) (λ q. a .credits (eqb-false p1 0x00 q)) in
     rw (n, l, k .0, k .1, k .2, a .personal, lt-leb (h .shared .maxnumber) (h .state .number) (a .room), m)
 
 -- ---- what a completed transaction leaves
@@ -114,12 +117,12 @@ noted-allowed h t set p1 currency amount a n l =
 -- the card after what is noted, a debit or a credit
 abbrev bookedCard : Card → Pending → List ℕ → Card
 bookedCard c p context =
-    let next = booked (isDebit p) (amountOf p) (c .head .state) in
-    changed (entry next (logRecord (isDebit p) (amountOf p) next (c .head .purse .parameters .currency) context)) c
+    let next = booked (isDebit p) (amountOf p) (c .head) in
+    changed (loggedChange next (logRecord (isDebit p) (amountOf p) next context)) c
 
 module _ (c : Card) (p1 currency amount : ℕ) (context : List ℕ) (a : Allows (c .head) p1 currency amount) where
   booked-kind : (b : Bool) → eqb p1 0x00 ≡ b → Completed c p1 amount context (bookedCard c (pick b (Debiting amount) (Crediting amount)) context)
-  unfolding booked isDebit amountOf newBalance changed logRecord logAmount
+  unfolding recordBytes booked isDebit amountOf newBalance changed headAfter logAfter withState withBalance withPurse logRecord logAmount
   booked-kind true t =
       let l = a .debits (eqb-true p1 0x00 t) in
       let w = a .above in
@@ -157,7 +160,7 @@ module _ (c : Card) (s : Session) (set : Set) (p1 currency amount : ℕ) (le ran
       ≡ done Unchanged (c .head) (answered (noted p1 amount) mac moved) (answer ++ mac)
   unfolding instruction of94 signedParameters signedLength isOpen signedOf initializeTransactionOf decided chained
   initialize-outcome =
-      let j : initializeJudged (c .head) moved p1 currency amount ≡ 0x9000 = judged-allowed (c .head) moved set p1 currency amount (o .level) e a in
+      let j : initializeStatus (c .head) moved p1 currency amount ≡ 0x9000 = judged-allowed (c .head) moved set p1 currency amount (o .level) e a in
       rw (
         reaches-signed c s random InitializeTransaction (Rmac set) 0x94 0x44 p1 0x00 (word currency ++ word amount) le short o refl
             (entitled-passes p1 set (s .verified) e .0) refl refl,
@@ -175,12 +178,12 @@ module _ (c : Card) (s : Session) (set : Set) (p1 currency amount : ℕ) (le ran
   -- command's C-MAC, these data and 90 00
   pub initialize-answers : (n : ℕ) (k : KeySet) → Numbered (c .head) k n set
       → let cmac = signature (s .channel .mac) (s .channel .cmac) (signedText 0x94 0x44 p1 0x00 (word currency ++ word amount)) in
-      let sent = c .head .purse .parameters .identifier ++ pick (eqb p1 0x02) (cbcText encipher (k .dek) (zeros 8) (c .head .purse .parameters .bank .value)) [] in
+      let sent = c .head .purse .parameters .identifier ++ pick (eqb p1 0x02) (cbcText encipher (k .keys .dek) (zeros 8) (c .head .purse .parameters .bank .value)) [] in
       content (respond c s (initialization s p1 currency amount le) random .reply)
       ≡ sent ++ signature (s .channel .mac) (s .channel .rmac) (cmac ++ sent ++ word 0x9000) ++ word 0x9000
   unfolding done initializeAnswer rmacOf bankSent chained nextMac
   initialize-answers n k m =
-      let d : dekOf (s .channel .level) (c .head) ≡ k .dek = rw (o .level) (set-dek m with-rmac) in
+      let d : dekOf (s .channel .level) (c .head) ≡ k .keys .dek = rw (o .level) (set-dek m with-rmac) in
       rw (initialize-outcome, d) (content-holding _)
 
   -- ---- COMPLETE TRANSACTION in the session handed back
@@ -207,7 +210,7 @@ module _ (c : Card) (s : Session) (set : Set) (p1 currency amount : ℕ) (le ran
     complete-reached =
         reaches-signed c handed random′ CompleteTransaction (Rmac set) 0x94 0x46 0x00 0x00 context le′ short′ still-open refl refl (rw long) refl
 
-    complete-judged : completeJudged (c .head) next ≡ 0x9000
+    complete-judged : completeStatus (c .head) next ≡ 0x9000
     unfolding chained answered
     complete-judged =
         noted-allowed (c .head) next set p1 currency amount a (rw handed-is) (rw handed-is (o .level))
@@ -219,7 +222,7 @@ module _ (c : Card) (s : Session) (set : Set) (p1 currency amount : ℕ) (le ran
 
     -- and moves the amount, with its record
     pub complete-moves : Completed c p1 amount context (cardAfter c handed (completion handed context le′) random′)
-    unfolding completeTransactionOf decided cardAfter changesOf after withState noted
+    unfolding completeTransactionOf decided cardAfter commitsOf changesOf after withState noted
     complete-moves =
         let n : next .pending ≡ noted p1 amount = unfold chained answered in rw handed-is in
         rw (complete-reached, complete-judged, n) (booked-kind c p1 currency amount context a (eqb p1 0x00) refl)
@@ -231,5 +234,5 @@ module _ (c : Card) (s : Session) (set : Set) (p1 currency amount : ℕ) (le ran
         let sent = d .head .purse .parameters .identifier ++ word (d .head .state .number) ++ operational (d .head) in
         content (respond c handed (completion handed context le′) random′ .reply)
         ≡ sent ++ signature (handed .channel .mac) (handed .channel .rmac) (cmac ++ sent ++ word 0x9000) ++ word 0x9000
-    unfolding completeTransactionOf decided cardAfter changesOf after changed withState completeAnswer rmacOf nextMac chained
-    complete-answers = rw (complete-reached, complete-judged) (content-holding _)
+    unfolding completeTransactionOf decided completeAnswer rmacOf nextMac chained
+    complete-answers = rw (head-after c handed (completion handed context le′) random′, complete-reached, complete-judged) (content-holding _)

@@ -7,15 +7,18 @@ use borrow.Author.Tests.{not-false, ltb-false, leb-false, eqb-true, eqb-false}
 use lib.Dec.{ltb, leb, eqb}
 use Rattle.octets.proofs.Rules.{passed}
 use Rattle.octets.proofs.Conditions.{neither}
-use Rattle.session.specs.Access.{ADMIN, CREDIT}
+use Rattle.card.specs.declared.head.Head.{Head}
+use Rattle.session.specs.declared.Session.{Session}
+use Rattle.session.specs.Access.{access, hasRmac, ADMIN, CREDIT}
+use Rattle.session.specs.Codes.{amountOf}
 use Rattle.commands_spec.specs.Words.{isOne, refusals}
 use Rattle.commands_spec.specs.PutKey.{putKeyStatus}
 use Rattle.commands_spec.specs.PinChange.{pinStatus}
 use Rattle.commands_spec.specs.StoreData.{storeStatus}
 use Rattle.commands_spec.specs.VerifyPin.{verifyStatus}
-use Rattle.commands_spec.specs.Transaction.{notAboveZero}
-use Rattle.commands_spec.specs.InitializeTransaction.{initializeStatus}
-use Rattle.commands_spec.specs.CompleteTransaction.{completeStatus}
+use Rattle.commands_spec.specs.Transaction.{notAboveZero, keepsLimits}
+use Rattle.commands_spec.specs.InitializeTransaction.{lacks, entitled, initializeStatus}
+use Rattle.commands_spec.specs.CompleteTransaction.{isNoted, isDebit, completeStatus}
 use Rattle.commands_spec.specs.PutData.{dataStatus}
 use Rattle.commands_spec.proofs.Steps.{Judged, rule}
 
@@ -37,14 +40,13 @@ pub verify-judged : (personalized defined : Bool) (level tries : ℕ) → Judged
 unfolding verifyStatus isOne refusals
 verify-judged personalized defined level tries = search rule depth 24
 
-pub initialize-judged : (personalized lacking may rmac : Bool) (number maxnumber currency ours amount : ℕ) (debit : Bool) (maxdebit balance maxbalance : ℕ)
-    → Judged refusals (initializeStatus personalized lacking may rmac number maxnumber currency ours amount debit maxdebit balance maxbalance)
+pub initialize-judged : (h : Head) (s : Session) (p1 currency amount : ℕ) → Judged refusals (initializeStatus h s p1 currency amount)
 unfolding initializeStatus isOne refusals
-initialize-judged personalized lacking may rmac number maxnumber currency ours amount debit maxdebit balance maxbalance = search rule depth 24
+initialize-judged h s p1 currency amount = search rule depth 24
 
-pub complete-judged : (personalized noted rmac keeps : Bool) (number maxnumber : ℕ) → Judged refusals (completeStatus personalized noted rmac keeps number maxnumber)
+pub complete-judged : (h : Head) (s : Session) → Judged refusals (completeStatus h s)
 unfolding completeStatus isOne refusals
-complete-judged personalized noted rmac keeps number maxnumber = search rule depth 24
+complete-judged h s = search rule depth 24
 
 pub data-judged : (personalized locked : Bool) (level : ℕ) (good undercut : Bool) → Judged refusals (dataStatus personalized locked level good undercut)
 unfolding dataStatus isOne refusals
@@ -64,68 +66,68 @@ verify-tries personalized defined level tries e =
     omega arith
 
 -- what INITIALIZE TRANSACTION found
-pub record Initializes (personalized lacking may rmac : Bool) (number maxnumber currency ours amount : ℕ) (debit : Bool)
-    (maxdebit balance maxbalance : ℕ) : Type 0 where
-  pub personal : personalized ≡ true
-  pub equipped : lacking ≡ false
-  pub entitled : may ≡ true
-  pub with-rmac : rmac ≡ true
-  pub room : number < maxnumber
-  pub same : currency ≡ ours
+pub record Initializes (h : Head) (s : Session) (p1 currency amount : ℕ) : Type 0 where
+  pub personal : h .purse .parameters .personalized ≡ true
+  pub equipped : lacks p1 (h .purse .parameters .bank .defined) (h .pin .defined) ≡ false
+  pub may : entitled p1 (access (s .channel .level)) (s .verified) ≡ true
+  pub with-rmac : hasRmac (s .channel .level) ≡ true
+  pub room : h .state .number < h .shared .maxnumber
+  pub same : currency ≡ h .purse .parameters .currency
   pub above : 0 < amount
   pub signed : amount < 0x8000
-  pub debits : debit ≡ true → (amount ≤ maxdebit) × (amount ≤ balance)
-  pub credits : debit ≡ false → balance + amount ≤ maxbalance
+  pub debits : eqb p1 0x00 ≡ true → (amount ≤ h .purse .parameters .maxdebit) × (amount ≤ h .purse .balance)
+  pub credits : eqb p1 0x00 ≡ false → h .purse .balance + amount ≤ h .purse .parameters .maxbalance
 
-pub initialize-passed : (personalized lacking may rmac : Bool) (number maxnumber currency ours amount : ℕ) (debit : Bool) (maxdebit balance maxbalance : ℕ)
-    → initializeStatus personalized lacking may rmac number maxnumber currency ours amount debit maxdebit balance maxbalance ≡ 0x9000
-    → Initializes personalized lacking may rmac number maxnumber currency ours amount debit maxdebit balance maxbalance
+pub initialize-passed : (h : Head) (s : Session) (p1 currency amount : ℕ) → initializeStatus h s p1 currency amount ≡ 0x9000
+    → Initializes h s p1 currency amount
 unfolding initializeStatus notAboveZero
-initialize-passed personalized lacking may rmac number maxnumber currency ours amount debit maxdebit balance maxbalance e =
-    let a = passed (not personalized) 0x6985 _ 0x9000 e (λ z. omega arith) in
-    let b = passed lacking 0x6A81 _ 0x9000 (a .1) (λ z. omega arith) in
-    let c = passed (not may) 0x6982 _ 0x9000 (b .1) (λ z. omega arith) in
-    let d = passed (not rmac) 0x6982 _ 0x9000 (c .1) (λ z. omega arith) in
-    let f = passed (leb maxnumber number) 0x9410 _ 0x9000 (d .1) (λ z. omega arith) in
-    let g = passed (not (eqb currency ours)) 0x9411 _ 0x9000 (f .1) (λ z. omega arith) in
-    let h = passed (eqb amount 0x0000 || leb 0x8000 amount) 0x9412 _ 0x9000 (g .1) (λ z. omega arith) in
-    let i = passed (debit && (ltb maxdebit amount || ltb balance amount)) 0x9413 _ 0x9000 (h .1) (λ z. omega arith) in
-    let j = passed (not debit && ltb maxbalance (balance + amount)) 0x9414 _ 0x9000 (i .1) (λ z. omega arith) in
-    let n = neither (eqb amount 0x0000) (leb 0x8000 amount) (h .0) in
+initialize-passed h s p1 currency amount e =
+    let q = h .purse .parameters in
+    let x = h .purse .balance in
+    let a = passed (not (q .personalized)) 0x6985 _ 0x9000 e (λ z. omega arith) in
+    let b = passed (lacks p1 (q .bank .defined) (h .pin .defined)) 0x6A81 _ 0x9000 (a .1) (λ z. omega arith) in
+    let c = passed (not (entitled p1 (access (s .channel .level)) (s .verified))) 0x6982 _ 0x9000 (b .1) (λ z. omega arith) in
+    let d = passed (not (hasRmac (s .channel .level))) 0x6982 _ 0x9000 (c .1) (λ z. omega arith) in
+    let f = passed (leb (h .shared .maxnumber) (h .state .number)) 0x9410 _ 0x9000 (d .1) (λ z. omega arith) in
+    let g = passed (not (eqb currency (q .currency))) 0x9411 _ 0x9000 (f .1) (λ z. omega arith) in
+    let k = passed (eqb amount 0x0000 || leb 0x8000 amount) 0x9412 _ 0x9000 (g .1) (λ z. omega arith) in
+    let i = passed (eqb p1 0x00 && (ltb (q .maxdebit) amount || ltb x amount)) 0x9413 _ 0x9000 (k .1) (λ z. omega arith) in
+    let j = passed (not (eqb p1 0x00) && ltb (q .maxbalance) (x + amount)) 0x9414 _ 0x9000 (i .1) (λ z. omega arith) in
+    let n = neither (eqb amount 0x0000) (leb 0x8000 amount) (k .0) in
     let z = eqb-false amount 0x0000 (n .0) in
     record {
-      personal = not-false personalized (a .0);
+      personal = not-false _ (a .0);
       equipped = b .0;
-      entitled = not-false may (c .0);
-      with-rmac = not-false rmac (d .0);
-      room = leb-false maxnumber number (f .0);
-      same = eqb-true currency ours (not-false (eqb currency ours) (g .0));
+      may = not-false _ (c .0);
+      with-rmac = not-false _ (d .0);
+      room = leb-false (h .shared .maxnumber) (h .state .number) (f .0);
+      same = eqb-true currency (q .currency) (not-false _ (g .0));
       above = omega arith;
       signed = leb-false 0x8000 amount (n .1);
-      debits = λ q. let m = neither (ltb maxdebit amount) (ltb balance amount) (rw q at (i .0)) in (ltb-false maxdebit amount (m .0), ltb-false balance amount (m .1));
-      credits = λ q. ltb-false maxbalance (balance + amount) (rw q at (j .0));
+      debits = λ y. let m = neither (ltb (q .maxdebit) amount) (ltb x amount) (rw y at (i .0)) in (ltb-false (q .maxdebit) amount (m .0), ltb-false x amount (m .1));
+      credits = λ y. ltb-false (q .maxbalance) (x + amount) (rw y at (j .0));
     }
 
 -- what COMPLETE TRANSACTION found
-pub record Completes (personalized noted keeps : Bool) (number maxnumber : ℕ) : Type 0 where
-  pub personal : personalized ≡ true
-  pub pending : noted ≡ true
-  pub room : number < maxnumber
-  pub within : keeps ≡ true
+pub record Completes (h : Head) (s : Session) : Type 0 where
+  pub personal : h .purse .parameters .personalized ≡ true
+  pub pending : isNoted (s .pending) ≡ true
+  pub room : h .state .number < h .shared .maxnumber
+  pub within : keepsLimits (isDebit (s .pending)) (amountOf (s .pending)) (h .purse .balance) (h .purse .parameters .maxbalance) ≡ true
 
-pub complete-passed : (personalized noted rmac keeps : Bool) (number maxnumber : ℕ) → completeStatus personalized noted rmac keeps number maxnumber ≡ 0x9000
-    → Completes personalized noted keeps number maxnumber
+pub complete-passed : (h : Head) (s : Session) → completeStatus h s ≡ 0x9000 → Completes h s
 unfolding completeStatus
-complete-passed personalized noted rmac keeps number maxnumber e =
-    let p = passed (not personalized) 0x6985 _ 0x9000 e (λ z. omega arith) in
-    let q = passed (not noted) 0x6985 _ 0x9000 (p .1) (λ z. omega arith) in
-    let r = passed (not rmac) 0x6982 _ 0x9000 (q .1) (λ z. omega arith) in
-    let t = passed (leb maxnumber number) 0x6985 _ 0x9000 (r .1) (λ z. omega arith) in
+complete-passed h s e =
+    let p = passed (not (h .purse .parameters .personalized)) 0x6985 _ 0x9000 e (λ z. omega arith) in
+    let q = passed (not (isNoted (s .pending))) 0x6985 _ 0x9000 (p .1) (λ z. omega arith) in
+    let r = passed (not (hasRmac (s .channel .level))) 0x6982 _ 0x9000 (q .1) (λ z. omega arith) in
+    let t = passed (leb (h .shared .maxnumber) (h .state .number)) 0x6985 _ 0x9000 (r .1) (λ z. omega arith) in
+    let keeps = keepsLimits (isDebit (s .pending)) (amountOf (s .pending)) (h .purse .balance) (h .purse .parameters .maxbalance) in
     let u = passed (not keeps) 0x6985 0x9000 0x9000 (t .1) (λ z. omega arith) in
     record {
-      personal = not-false personalized (p .0);
-      pending = not-false noted (q .0);
-      room = leb-false maxnumber number (t .0);
+      personal = not-false _ (p .0);
+      pending = not-false _ (q .0);
+      room = leb-false (h .shared .maxnumber) (h .state .number) (t .0);
       within = not-false keeps (u .0);
     }
 

@@ -1,6 +1,7 @@
 pub mod Sums
 pub mod Steps
 pub mod Judgements
+pub mod SameElse
 pub mod Ways
 pub mod Words
 pub mod Refusals
@@ -13,7 +14,6 @@ pub mod Moves
 pub mod Cuts
 pub mod Readers
 pub mod PinTry
-pub mod Arrays
 pub mod Facts
 pub mod Sizes
 pub mod ProperChanges

@@ -16,7 +16,7 @@ use Rattle.commands_spec.specs.Data.{datumSet, datum}
 use Rattle.commands_spec.specs.StoreData.{acceptable, stored}
 use Rattle.commands_spec.specs.Values.{Value, Tlv, flat, Apart, Carries, here, there, Listed, none, more}
 use Rattle.commands_spec.proofs.Values.{value-taken, value-within, value-read, value-apart, value-only}
-use Rattle.commands_spec.proofs.Tlvs.{storedList, stays-spoiled, refused-spoils, taken, taken-is, fits-below, fits-tells}
+use Rattle.commands_spec.proofs.Tlvs.{storedList, stays-rejected, refused-spoils, taken, taken-is, fits-below, fits-tells}
 
 -- ---- the TLVs in their turn
 
@@ -124,10 +124,10 @@ module _ (dek : List ℕ) where
       )
 
   -- what was refused once stays refused
-  spoiled-list : (xs : List Tlv) (st : Stored) → st .good ≡ false → storedList dek xs st .good ≡ false
+  rejected-list : (xs : List Tlv) (st : Stored) → st .good ≡ false → storedList dek xs st .good ≡ false
   unfolding storedList
-  spoiled-list [] st e = e
-  spoiled-list (x ∷ xs) st e = spoiled-list xs _ (stays-spoiled dek st x e)
+  rejected-list [] st e = e
+  rejected-list (x ∷ xs) st e = rejected-list xs _ (stays-rejected dek st x e)
 
   -- a tag that has come, and one that hasn't
   unseen-apart : (seen : List ℕ) (tag : ℕ) (xs : List Tlv) → getD seen tag 0 ≡ 1 → Unseen seen xs → Apart tag xs
@@ -151,7 +151,7 @@ module _ (dek : List ℕ) where
       go : (b : Bool) → acceptable (st .seen) (x .tag) (x .sent) ≡ b
           → (acceptable (st .seen) (x .tag) (x .sent) ≡ true → Listed dek xs × Unseen (set (st .seen) (x .tag) 1) xs)
           → Listed dek (x ∷ xs) × ((getD (st .seen) (x .tag) 0 ≡ 0) × Unseen (st .seen) xs)
-      go false p later = absurd (false≢true (sym (spoiled-list xs _ (refused-spoils dek st x p)) ∙ g))
+      go false p later = absurd (false≢true (sym (rejected-list xs _ (refused-spoils dek st x p)) ∙ g))
       go true p later =
           let k = fits-below dek st e x p in
           let q = fits-tells dek st e x p in

@@ -5,11 +5,12 @@ use mathlib.Core.Path.{_≡_, refl}
 use Prim.Native.Nat.{ℕ, _+_, _-_, _≤_, _<_}
 use native.Mathlib.Omega.{arith}
 use borrow.Author.Tests.{leb-true}
-use lib.ListN.{take}
+use lib.ListN.{length, take}
 use Rattle.octets.specs.Bytes.{part}
-use Rattle.card.specs.declared.head.State.{State}
+use Rattle.card.specs.declared.head.Head.{Head}
+use Rattle.card.specs.declared.log.Record.{Record}
 use Rattle.card.specs.Card.{Card}
-use Rattle.card.specs.Changes.{state, entry, changed}
+use Rattle.card.specs.Changes.{loggedChange, changed, headAfter, logAfter, after}
 use Rattle.session.specs.declared.Pending.{Pending}
 use Rattle.session.specs.declared.Pending.the-variants.{Nothing, Update, Debiting, Crediting}
 use Rattle.session.specs.declared.Session.{Session}
@@ -18,11 +19,11 @@ use Rattle.session.specs.Codes.{amountOf}
 use Rattle.apdu.specs.declared.instructions.Signed.the-variants.{CompleteTransaction}
 use Rattle.apdu.specs.declared.instructions.Instruction.the-variants.{IsSigned}
 use Rattle.commands_spec.specs.declared.outcome.Outcome.{Outcome}
-use Rattle.commands_spec.specs.Outcomes.{refused, done, decided, tried, changesOf, after}
-use Rattle.commands_spec.specs.Updates.{withState, withTries}
+use Rattle.commands_spec.specs.Outcomes.{refused, done, decided, tried, changesOf, commitsOf}
+use Rattle.card.specs.Updates.{withState, withTries, withBalance, withPurse}
 use Rattle.commands_spec.specs.Transaction.{newBalance, keepsLimits}
 use Rattle.commands_spec.specs.VerifyPin.{judged}
-use Rattle.commands_spec.specs.CompleteTransaction.{isNoted, isDebit, booked, logRecord, completeJudged, completeTransactionOf}
+use Rattle.commands_spec.specs.CompleteTransaction.{isNoted, isDebit, booked, logRecord, completeStatus, completeTransactionOf}
 use Rattle.commands_spec.specs.Respond.{named, respond, cardAfter}
 use Rattle.commands_spec.proofs.Judgements.{complete-passed}
 use Rattle.commands_spec.proofs.Ways.{Way, refuses, mismatch, judges, answers, books, way, afterwards, Kept}
@@ -41,21 +42,21 @@ creditOf (Update set) = 0
 creditOf (Debiting amount) = 0
 creditOf (Crediting amount) = amount
 
--- the state after what is pending, and its record
-abbrev pub bookedState : Card → Pending → State
-bookedState c p = booked (isDebit p) (amountOf p) (c .head .state)
+-- the head after what is pending, and its record
+abbrev pub bookedHead : Card → Pending → Head
+bookedHead c p = booked (isDebit p) (amountOf p) (c .head)
 
-abbrev pub bookedRecord : Card → Pending → List ℕ → List ℕ
-bookedRecord c p context = logRecord (isDebit p) (amountOf p) (bookedState c p) (c .head .purse .parameters .currency) context
+abbrev pub bookedRecord : Card → Pending → List ℕ → Record
+bookedRecord c p context = logRecord (isDebit p) (amountOf p) (bookedHead c p) context
 
 -- what is pending moved, with the context that the command gives
 pub record Moved (c : Card) (p : Pending) (context : List ℕ) (d : Card) : Type 0 where
-  pub is : d ≡ changed (entry (bookedState c p) (bookedRecord c p context)) c
+  pub is : d ≡ changed (loggedChange (bookedHead c p) (bookedRecord c p context)) c
   pub number : d .head .state .number ≡ c .head .state .number + 1
   pub room : c .head .state .number < c .head .shared .maxnumber
-  pub balance : d .head .state .balance + debitOf p ≡ c .head .state .balance + creditOf p
-  pub limit : c .head .state .balance ≤ c .head .purse .parameters .maxbalance → d .head .state .balance ≤ d .head .purse .parameters .maxbalance
-  pub log : d .log ≡ bookedRecord c p context ∷ take (c .head .fixed .logsize - 1) (c .log)
+  pub balance : d .head .purse .balance + debitOf p ≡ c .head .purse .balance + creditOf p
+  pub limit : c .head .purse .balance ≤ c .head .purse .parameters .maxbalance → d .head .purse .balance ≤ d .head .purse .parameters .maxbalance
+  pub log : d .log ≡ bookedRecord c p context ∷ take (length (c .log) - 1) (c .log)
 
 -- the sum, and the limit
 pub moved-balance : (p : Pending) (x m : ℕ) → isNoted p ≡ true → keepsLimits (isDebit p) (amountOf p) x m ≡ true
@@ -67,21 +68,21 @@ moved-balance (Debiting amount) x m n k = let h = leb-true amount x k in (omega 
 moved-balance (Crediting amount) x m n k = let h = leb-true (x + amount) m k in (omega arith, omega arith)
 
 module _ (c : Card) (s : Session) (command : List ℕ) where
-  completed : (mac : List ℕ) → completeJudged (c .head) (chained mac s) ≡ 0x9000
+  completed : (mac : List ℕ) → completeStatus (c .head) (chained mac s) ≡ 0x9000
       → Moved c (s .pending) (part command 5 16) (afterwards c (completeTransactionOf (c .head) (chained mac s) (part command 5 16)))
-  unfolding completeTransactionOf decided changesOf after changed withState chained completeJudged booked
+  unfolding completeTransactionOf decided commitsOf changesOf after changed headAfter logAfter withState withBalance withPurse chained booked
   completed mac j =
-      let f = complete-passed _ _ _ _ _ _ j in
-      let b = moved-balance (s .pending) (c .head .state .balance) (c .head .purse .parameters .maxbalance) (f .pending) (f .within) in
+      let f = complete-passed _ _ j in
+      let b = moved-balance (s .pending) (c .head .purse .balance) (c .head .purse .parameters .maxbalance) (f .pending) (f .within) in
       rw j (record { is = refl; number = refl; room = f .room; balance = b .0; limit = b .1; log = refl })
 
   stays : (o : Outcome) → Way c s command o → (named command ≡ IsSigned CompleteTransaction → o .status ≡ 0x9000 → ⊥) → Kept c (afterwards c o)
-  unfolding refused done judged completeTransactionOf decided changesOf after changed tried withTries withState
+  unfolding refused done judged completeTransactionOf decided commitsOf changesOf after changed headAfter logAfter withState withTries withBalance withPurse tried
   stays o (refuses w t j e) x = rw e (record { balance = refl; number = refl; log = refl })
   stays o (mismatch t i e) x = rw e (record { balance = refl; number = refl; log = refl })
   stays o (judges true i k e) x = rw e (record { balance = refl; number = refl; log = refl })
   stays o (judges false i k e) x = rw e (record { balance = refl; number = refl; log = refl })
-  stays o (answers effect next t answer n q e) x = rw e (q .kept)
+  stays o (answers commits next t answer n q e) x = rw e (q .kept)
   stays o (books mac i j e) x = absurd (x i (rw (e, j)))
 
 -- balance, number and log move together or not at all

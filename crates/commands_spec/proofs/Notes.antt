@@ -23,7 +23,7 @@ use Rattle.commands_spec.specs.Outcomes.{refused, done}
 use Rattle.commands_spec.specs.Words.{isOne, refusals}
 use Rattle.commands_spec.specs.VerifyPin.{judged}
 use Rattle.commands_spec.specs.InitializeTransaction.{noted}
-use Rattle.commands_spec.specs.CompleteTransaction.{isNoted, completeJudged, completeTransactionOf}
+use Rattle.commands_spec.specs.CompleteTransaction.{isNoted, completeStatus, completeTransactionOf}
 use Rattle.commands_spec.specs.Respond.{named, respond}
 use Rattle.commands_spec.proofs.Judgements.{complete-passed}
 use Rattle.commands_spec.proofs.Ways.{Way, refuses, mismatch, judges, answers, books, way, ownWay, not-refused}
@@ -34,7 +34,7 @@ use Rattle.commands_spec.proofs.Sessions.{pendingAfter, ends-pending}
 -- its outcome, under the session with the chain of C-MACs moved on
 pub record Booked (c : Card) (s : Session) (command : List ℕ) (o : Outcome) : Type 0 where
   pub mac : List ℕ
-  pub passed : completeJudged (c .head) (chained mac s) ≡ 0x9000
+  pub passed : completeStatus (c .head) (chained mac s) ≡ 0x9000
   pub is : o ≡ completeTransactionOf (c .head) (chained mac s) (part command 5 16)
 
 booked-way : (c : Card) (s : Session) (command : List ℕ) (o : Outcome) → Way c s command o → named command ≡ IsSigned CompleteTransaction
@@ -43,7 +43,7 @@ unfolding refused done judged ownWay isOne refusals
 booked-way c s command o (refuses w t j e) i f = absurd (not-refused (c .head) t w 0x9000 o j e f refl)
 booked-way c s command o (mismatch t i′ e) i f = absurd (let z : o .status ≡ 0x6300 = rw e in omega arith)
 booked-way c s command o (judges right i′ k e) i f = absurd (let z : _≡_ {A = ℕ} 0 1 = cc in omega arith)
-booked-way c s command o (answers effect next t answer n q e) i f = absurd (false≢true (sym n ∙ ap ownWay i))
+booked-way c s command o (answers commits next t answer n q e) i f = absurd (false≢true (sym n ∙ ap ownWay i))
 booked-way c s command o (books mac i′ j e) i f = record { mac = mac; passed = j; is = e }
 
 -- ---- what is noted afterwards
@@ -78,8 +78,8 @@ module _ (c : Card) (s : Session) (command random : List ℕ) where
 
   -- a COMPLETE TRANSACTION with 9000 had a noted amount
   pub complete-was-noted : named command ≡ IsSigned CompleteTransaction → O .status ≡ 0x9000 → isNoted (s .pending) ≡ true
-  unfolding completeJudged chained
-  complete-was-noted i f = complete-passed _ _ _ _ _ _ (completes i f .passed) .pending
+  unfolding chained
+  complete-was-noted i f = complete-passed _ _ (completes i f .passed) .pending
 
   -- an INITIALIZE TRANSACTION with 9000 notes its amount: P1 is byte 3 of the command, the amount bytes 8 and 9
   pub initialize-notes : named command ≡ IsSigned InitializeTransaction → O .status ≡ 0x9000

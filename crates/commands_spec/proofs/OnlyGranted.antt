@@ -32,7 +32,7 @@ use Rattle.apdu.proofs.Shapes.{header}
 use Rattle.commands_spec.specs.declared.outcome.Outcome.{Outcome}
 use Rattle.commands_spec.specs.Outcomes.{refused, decided}
 use Rattle.commands_spec.specs.Words.{isOne, refusals}
-use Rattle.commands_spec.specs.InitializeTransaction.{lacks, entitled, initializeJudged, initializeTransactionOf}
+use Rattle.commands_spec.specs.InitializeTransaction.{lacks, entitled, initializeStatus, initializeTransactionOf}
 use Rattle.commands_spec.specs.Respond.{signedOf, named, respond}
 use Rattle.commands_spec.specs.Allowed.{Entitled, Allows}
 use Rattle.commands_spec.proofs.Steps.{early, early-refusal, macOf, Accepted, respond-holds}
@@ -65,13 +65,13 @@ unfolding lacks
 equipped-by p1 bank pin e q = and-both bank pin (not-false (bank && pin) (rw (eq-eqb p1 0x02 q) at e))
 
 -- 01's conditions, where no rule refuses
-rules-passed : (h : Head) (s : Session) (p1 currency amount : ℕ) → p1 ≤ 2 → initializeJudged h s p1 currency amount ≡ 0x9000
+rules-passed : (h : Head) (s : Session) (p1 currency amount : ℕ) → p1 ≤ 2 → initializeStatus h s p1 currency amount ≡ 0x9000
     → (l : HasSet (s .channel .level)) × Entitled p1 (l .set) (s .verified) × Allows h p1 currency amount
-unfolding initializeJudged access
+unfolding access
 rules-passed h s p1 currency amount one-of e =
-    let f = initialize-passed _ _ _ _ _ _ _ _ _ _ _ _ _ e in
+    let f = initialize-passed h s p1 currency amount e in
     let l = rmac-set (s .channel .level) (f .with-rmac) in
-    let w : entitled p1 (accessOf (l .set)) (s .verified) ≡ true = rw (l .is) at (f .entitled) in (
+    let w : entitled p1 (accessOf (l .set)) (s .verified) ≡ true = rw (l .is) at (f .may) in (
       l,
       entitled-by p1 (l .set) (s .verified) one-of w,
       record {
@@ -119,7 +119,7 @@ module _ (c : Card) (s : Session) (command random : List ℕ) (is : named comman
       let t = chained (macOf s command lc) s in
       let a : wordAt (dataOf command (lc - macSize)) 0 ≡ wordAt command 5 = rw k (word-in-part command 5 4 0 (omega arith)) in
       let b : wordAt (dataOf command (lc - macSize)) 2 ≡ wordAt command 7 = rw k (word-in-part command 5 4 2 (omega arith)) in
-      let j : initializeJudged (c .head) t (byteAt command 2) (wordAt command 5) (wordAt command 7) ≡ 0x9000 =
+      let j : initializeStatus (c .head) t (byteAt command 2) (wordAt command 5) (wordAt command 7) ≡ 0x9000 =
       rw (a, b) at (decided-passed _ (c .head) (ended t) _ e) in
       let q = and-both (eqb (byteAt command 3) 0x00) (leb (byteAt command 2) 0x02) (f .parameters) in
       let r = rules-passed (c .head) t (byteAt command 2) (wordAt command 5) (wordAt command 7) (leb-true _ _ (q .1)) j in

@@ -1,4 +1,4 @@
--- VERIFY PIN spends the try before it judges the PIN: its first change, and its effect but for the verdict, don't depend on the data
+-- VERIFY PIN spends the try before it judges the PIN: its first commit, and its commits but for the verdict, don't depend on the data
 -- that was sent. Assumes nothing.
 use mathlib.Core.Bool.{Bool, true, false}
 use mathlib.Core.List.{List}
@@ -10,7 +10,10 @@ use lib.Dec.{eqb}
 use lib.ListN.{length, take, getD}
 use Rattle.octets.specs.Choice.{pick}
 use Rattle.octets.specs.Bytes.{byteAt}
-use Rattle.card.specs.Card.{Card, void}
+use Rattle.card.specs.declared.log.Record.{Record}
+use Rattle.card.specs.Log.{void}
+use Rattle.card.specs.Card.{Card}
+use Rattle.card.specs.Updates.{withState, withTries}
 use Rattle.session.specs.declared.Session.{Session}
 use Rattle.session.specs.Transitions.{ended}
 use Rattle.apdu.specs.declared.parsing.Apdu.{Apdu}
@@ -19,16 +22,15 @@ use Rattle.apdu.specs.declared.instructions.Plain.the-variants.{VerifyPin}
 use Rattle.apdu.specs.declared.instructions.Instruction.{Instruction}
 use Rattle.apdu.specs.declared.instructions.Instruction.the-variants.{IsPlain}
 use Rattle.apdu.specs.Parsing.{headed, parsed, dataOf}
-use Rattle.commands_spec.specs.declared.outcome.Effect.{Effect}
-use Rattle.commands_spec.specs.declared.outcome.Effect.the-variants.{Unchanged, StateOnly, StateAndEntry, ParametersOnly, StateAndParameters, PinTry}
+use Rattle.commands_spec.specs.declared.outcome.Commits.{Commits}
+use Rattle.commands_spec.specs.declared.outcome.Commits.the-variants.{Unchanged, Hot, HotAndRecord, HotAndCold, HotTwice}
 use Rattle.commands_spec.specs.declared.outcome.Outcome.{Outcome}
-use Rattle.commands_spec.specs.Outcomes.{refused, done, decided, changesOf}
+use Rattle.commands_spec.specs.Outcomes.{refused, done, decided, changesOf, commitsOf}
 use Rattle.commands_spec.specs.VerifyPin.{judged, verifyPinOf}
 use Rattle.commands_spec.specs.ReadRecord.{asked}
 use Rattle.commands_spec.specs.Respond.{plainOf, named, onInstruction, onParsed, respondTo, respond}
 use Rattle.commands_spec.proofs.Steps.{parsed-holds}
 use Rattle.commands_spec.proofs.Judgements.{verify-tries}
-use Rattle.commands_spec.proofs.Ways.{changes}
 
 -- ---- two commands of one length that agree in their first five bytes
 
@@ -59,7 +61,7 @@ module _ (c : Card) (s : Session) (P : Outcome → Outcome → Type 0)
   unfolding verifyPinOf
   verify-pair a b = decided-pair _ (ended s) _ _ (λ e. judgement _ _ (verify-tries _ _ _ _ e))
 
-  module _ (a b random : List ℕ) (q r : List ℕ) where
+  module _ (a b random : List ℕ) (q r : Record) where
     instruction-pair : (x : Apdu) (i : Instruction) → i ≡ IsPlain VerifyPin
         → P (onInstruction i (c .head) q s x a random) (onInstruction i (c .head) r s x b random)
     unfolding onInstruction plainOf
@@ -79,30 +81,29 @@ module _ (c : Card) (s : Session) (P : Outcome → Outcome → Type 0)
       (parsed-holds a (λ (x : Parsed). P (onParsed x (c .head) q s a random) (onParsed x (c .head) r s b random))
       (refusal _ _) (λ lc w. parsed-pair a b random q r lc e))
 
--- ---- the first change
+-- ---- the first commit
 
--- an effect without the verdict
-unfoldable pub blind : Effect → Effect
+-- the commits without the verdict: a right PIN has one more behind the first
+unfoldable pub blind : Commits → Commits
 blind Unchanged = Unchanged
-blind StateOnly = StateOnly
-blind StateAndEntry = StateAndEntry
-blind ParametersOnly = ParametersOnly
-blind StateAndParameters = StateAndParameters
-blind (PinTry right) = PinTry false
+blind Hot = Hot
+blind HotAndRecord = HotAndRecord
+blind HotAndCold = HotAndCold
+blind (HotTwice first) = Hot
 
--- the same first change, and the same effect but for the verdict
-pub record Alike (c : Card) (o u : Outcome) : Type 0 where
-  pub effect : blind (o .effect) ≡ blind (u .effect)
-  pub first : take 1 (changes c o) ≡ take 1 (changes c u)
+-- the same first commit, and the same commits but for the verdict
+pub record Alike (o u : Outcome) : Type 0 where
+  pub commits : blind (o .commits) ≡ blind (u .commits)
+  pub first : take 1 (commitsOf o) ≡ take 1 (commitsOf u)
 
-judged-alike : (c : Card) (s : Session) (x y : Bool) → Alike c (judged x (c .head) s) (judged y (c .head) s)
-unfolding judged done blind changesOf
-judged-alike c s true true = record { effect = refl; first = refl }
-judged-alike c s true false = record { effect = refl; first = refl }
-judged-alike c s false true = record { effect = refl; first = refl }
-judged-alike c s false false = record { effect = refl; first = refl }
+judged-alike : (c : Card) (s : Session) (x y : Bool) → Alike (judged x (c .head) s) (judged y (c .head) s)
+unfolding judged done blind commitsOf changesOf withState withTries
+judged-alike c s true true = record { commits = refl; first = refl }
+judged-alike c s true false = record { commits = refl; first = refl }
+judged-alike c s false true = record { commits = refl; first = refl }
+judged-alike c s false false = record { commits = refl; first = refl }
 
 -- is the same
 pub pin-first-change : (c : Card) (s : Session) (a b random : List ℕ) → named a ≡ IsPlain VerifyPin → length a ≡ length b
-    → ((k : ℕ) → k < 5 → byteAt a k ≡ byteAt b k) → Alike c (respond c s a random) (respond c s b random)
-pin-first-change c s = pin-pair c s (Alike c) (λ t w. record { effect = refl; first = refl }) (λ x y h. judged-alike c s x y)
+    → ((k : ℕ) → k < 5 → byteAt a k ≡ byteAt b k) → Alike (respond c s a random) (respond c s b random)
+pin-first-change c s = pin-pair c s Alike (λ t w. record { commits = refl; first = refl }) (λ x y h. judged-alike c s x y)

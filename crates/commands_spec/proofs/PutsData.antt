@@ -52,7 +52,7 @@ module _ {dek : List ℕ} where
   value-tag value = let w = value-within dek value in rw (w .0, w .1)
 
   settable-passes : {tag : ℕ} {v sent : List ℕ} (h : Head) → Value dek tag v sent → Settable h tag v
-      → (locked tag (h .state .balance) ≡ false) × (undercuts tag (wordAt sent 0) (h .state .balance) (h .state .number) ≡ false)
+      → (locked tag (h .purse .balance) ≡ false) × (undercuts tag (wordAt sent 0) (h .purse .balance) (h .state .number) ≡ false)
   unfolding locked undercuts
   settable-passes h (identifier v l) s = absurd (s .identifier refl)
   settable-passes h (currency n) s = (rw (s .currency refl), refl)

@@ -11,7 +11,8 @@ use Rattle.octets.specs.Buffers.{content}
 use Rattle.octets.proofs.Equality.{same-refl, differ-same}
 use Rattle.octets.proofs.Holding.{content-holding}
 use Rattle.card.specs.declared.head.Head.{Head}
-use Rattle.card.specs.Card.{Card, void}
+use Rattle.card.specs.Log.{void, recordBytes}
+use Rattle.card.specs.Card.{Card}
 use Rattle.session.specs.declared.Level.the-variants.{Closed}
 use Rattle.session.specs.declared.Pending.the-variants.{Nothing}
 use Rattle.session.specs.declared.Session.{Session}
@@ -60,11 +61,11 @@ pub record Selected (h : Head) (s : Session) (o : Outcome) : Type 0 where
   pub session : o .session ≡ selection true s
 
 -- the card's own AID selects
-pub select-granted : (c : Card) (s : Session) (le random : List ℕ) → let aid = take (c .head .fixed .aidlen) (c .head .fixed .aid) in 0 < length aid → length le ≤ 1
+pub select-granted : (c : Card) (s : Session) (le random : List ℕ) → let aid = take (c .head .purse .aid .size) (c .head .purse .aid .bytes) in 0 < length aid → length le ≤ 1
     → Selected (c .head) s (respond c s (plainCommand 0x00 0xA4 0x04 0x00 aid le) random)
 unfolding instruction of00 isSelect are plainParameters hasRecord plainLength plainOf selectOf selectAnswer done reselected
 select-granted c s le random some short =
-    let aid = take (c .head .fixed .aidlen) (c .head .fixed .aid) in
+    let aid = take (c .head .purse .aid .size) (c .head .purse .aid .bytes) in
     rw (reaches-plain c s random Select 0x00 0xA4 0x04 0x00 aid le some short refl refl refl refl refl, same-refl aid)
     (record {
       admin = administrative (c .head) (s .verified);
@@ -83,17 +84,17 @@ pub record Deselected (s : Session) (o : Outcome) : Type 0 where
   pub session : o .session ≡ selection false s
 
 pub another-deselects : (c : Card) (s : Session) (aid le random : List ℕ) → 0 < length aid → length le ≤ 1
-    → (aid ≡ take (c .head .fixed .aidlen) (c .head .fixed .aid) → ⊥) → Deselected s (respond c s (plainCommand 0x00 0xA4 0x04 0x00 aid le) random)
+    → (aid ≡ take (c .head .purse .aid .size) (c .head .purse .aid .bytes) → ⊥) → Deselected s (respond c s (plainCommand 0x00 0xA4 0x04 0x00 aid le) random)
 unfolding instruction of00 isSelect are plainParameters hasRecord plainLength plainOf selectOf refused reselected
 another-deselects c s aid le random some short other =
-    rw (reaches-plain c s random Select 0x00 0xA4 0x04 0x00 aid le some short refl refl refl refl refl, differ-same aid (take (c .head .fixed .aidlen) (c .head .fixed .aid)) other)
+    rw (reaches-plain c s random Select 0x00 0xA4 0x04 0x00 aid le some short refl refl refl refl refl, differ-same aid (take (c .head .purse .aid .size) (c .head .purse .aid .bytes)) other)
     (record { status = refl; reply = content-holding (word 0x6A82); session = refl })
 
 pub none-deselects : (c : Card) (s : Session) (le random : List ℕ) → length le ≤ 1
-    → ([] ≡ take (c .head .fixed .aidlen) (c .head .fixed .aid) → ⊥) → Deselected s (respond c s (bareCommand 0x00 0xA4 0x04 0x00 le) random)
+    → ([] ≡ take (c .head .purse .aid .size) (c .head .purse .aid .bytes) → ⊥) → Deselected s (respond c s (bareCommand 0x00 0xA4 0x04 0x00 le) random)
 unfolding instruction of00 isSelect are plainParameters hasRecord plainLength plainOf selectOf refused reselected
 none-deselects c s le random short other =
-    rw (reaches-bare c s random Select 0x00 0xA4 0x04 0x00 le short refl refl refl refl refl, differ-same [] (take (c .head .fixed .aidlen) (c .head .fixed .aid)) other)
+    rw (reaches-bare c s random Select 0x00 0xA4 0x04 0x00 le short refl refl refl refl refl, differ-same [] (take (c .head .purse .aid .size) (c .head .purse .aid .bytes)) other)
     (record { status = refl; reply = content-holding (word 0x6A82); session = refl })
 
 -- ---- READ RECORD
@@ -101,7 +102,7 @@ none-deselects c s le random short other =
 -- "Record 1 is the newest": record n is the n-th of the log
 pub record-granted : (c : Card) (s : Session) (n : ℕ) (le random : List ℕ) → s .selected ≡ true → 1 ≤ n → n ≤ c .head .fixed .logsize → length le ≤ 1
     → let o = respond c s (bareCommand 0x00 0xB2 n 0x04 le) random in
-    (o .status ≡ 0x9000) × (content (o .reply) ≡ getD (c .log) (n - 1) void ++ word 0x9000)
+    (o .status ≡ 0x9000) × (content (o .reply) ≡ recordBytes (getD (c .log) (n - 1) void) ++ word 0x9000)
 unfolding instruction of00 isSelect plainParameters hasRecord plainLength plainOf readRecordOf asked bareCommand done
 record-granted c s n le random sel low high short =
     rw (reaches-bare c s random ReadRecord 0x00 0xB2 n 0x04 le short refl sel refl (rw (le-leb 1 n low, le-leb n (c .head .fixed .logsize) high)) refl)

@@ -14,7 +14,7 @@ use Rattle.session.specs.declared.Level.{Level}
 use Rattle.session.specs.declared.Session.{Session}
 use Rattle.session.specs.Access.{access, accessOf, hasRmac, isOpen, ADMIN}
 use Rattle.commands_spec.specs.declared.outcome.Outcome.{Outcome}
-use Rattle.commands_spec.specs.Updates.{keysOf, dekOf}
+use Rattle.commands_spec.specs.KeySets.{keySetOf, dekOf}
 use Rattle.commands_spec.specs.Outcomes.{refused, decided}
 use Rattle.commands_spec.specs.Allowed.{Numbered, first, second, third, LevelOf, with-cmac, with-rmac}
 use Rattle.commands_spec.specs.Order.{Rule, refuses, passes, NotAdmin}
@@ -83,18 +83,18 @@ admin-tells Credit = (λ e n. let z : _≡_ {A = ℕ} 0 1 = cc in omega arith, �
 admin-tells Admin = (λ e n. false≢true e, λ n. absurd (n refl))
 
 -- the DEK of an open channel is that of its set
-pub set-dek : {h : Head} {k : KeySet} {n : ℕ} {set : Set} {p : ℕ} {l : Level} → Numbered h k n set → LevelOf set p l → dekOf l h ≡ k .dek
-unfolding dekOf keysOf
-set-dek {h = h} {k = k} (first e) with-cmac = ap (λ (x : KeySet). x .dek) (sym e)
-set-dek {h = h} {k = k} (first e) with-rmac = ap (λ (x : KeySet). x .dek) (sym e)
-set-dek {h = h} {k = k} (second e) with-cmac = ap (λ (x : KeySet). x .dek) (sym e)
-set-dek {h = h} {k = k} (second e) with-rmac = ap (λ (x : KeySet). x .dek) (sym e)
-set-dek {h = h} {k = k} (third e) with-cmac = ap (λ (x : KeySet). x .dek) (sym e)
-set-dek {h = h} {k = k} (third e) with-rmac = ap (λ (x : KeySet). x .dek) (sym e)
+pub set-dek : {h : Head} {k : KeySet} {n : ℕ} {set : Set} {p : ℕ} {l : Level} → Numbered h k n set → LevelOf set p l → dekOf l h ≡ k .keys .dek
+unfolding dekOf keySetOf
+set-dek {h = h} {k = k} (first e) with-cmac = ap (λ (x : KeySet). x .keys .dek) (sym e)
+set-dek {h = h} {k = k} (first e) with-rmac = ap (λ (x : KeySet). x .keys .dek) (sym e)
+set-dek {h = h} {k = k} (second e) with-cmac = ap (λ (x : KeySet). x .keys .dek) (sym e)
+set-dek {h = h} {k = k} (second e) with-rmac = ap (λ (x : KeySet). x .keys .dek) (sym e)
+set-dek {h = h} {k = k} (third e) with-cmac = ap (λ (x : KeySet). x .keys .dek) (sym e)
+set-dek {h = h} {k = k} (third e) with-rmac = ap (λ (x : KeySet). x .keys .dek) (sym e)
 
 -- a channel of set 3 is open at either level, has access ADMIN, and its DEK is that of set 3
 pub admin-channel : (p1 : ℕ) (l : Level) (h : Head) → LevelOf Admin p1 l
     → (isOpen l ≡ true) × (access l ≡ ADMIN) × (dekOf l h ≡ h .shared .admin .dek)
-unfolding isOpen access accessOf dekOf keysOf
+unfolding isOpen access accessOf dekOf keySetOf
 admin-channel p1 l h with-cmac = (refl, refl, refl)
 admin-channel p1 l h with-rmac = (refl, refl, refl)

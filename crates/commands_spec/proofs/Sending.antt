@@ -15,7 +15,8 @@ use Rattle.octets.proofs.Parts.{part-between}
 use Rattle.octets.proofs.Rules.{or-left, or-right}
 use Rattle.des_spec.specs.Modes.{signature}
 use Rattle.des_spec.proofs.Signature.{length-signature}
-use Rattle.card.specs.Card.{Card, void}
+use Rattle.card.specs.Log.{void}
+use Rattle.card.specs.Card.{Card}
 use Rattle.session.specs.declared.Level.{Level}
 use Rattle.session.specs.declared.Session.{Session}
 use Rattle.session.specs.Transitions.{chained}

@@ -15,7 +15,8 @@ use Rattle.octets.proofs.Equality.{fails}
 use Rattle.octets.proofs.Numbers.{word-in-part}
 use Rattle.octets.proofs.Rules.{pick-holds}
 use Rattle.card.specs.declared.head.Head.{Head}
-use Rattle.card.specs.Card.{Card, void}
+use Rattle.card.specs.Log.{void}
+use Rattle.card.specs.Card.{Card}
 use Rattle.session.specs.declared.Channel.{Channel}
 use Rattle.session.specs.declared.Pending.{Pending}
 use Rattle.session.specs.declared.Pending.the-variants.{Nothing, Update, Debiting, Crediting}
@@ -35,7 +36,7 @@ use Rattle.apdu.proofs.Shapes.{header}
 use Rattle.commands_spec.specs.declared.outcome.Outcome.{Outcome}
 use Rattle.commands_spec.specs.Outcomes.{refused, done}
 use Rattle.commands_spec.specs.Words.{isOne, refusals}
-use Rattle.commands_spec.specs.Updates.{keysOf}
+use Rattle.commands_spec.specs.KeySets.{keySetOf}
 use Rattle.commands_spec.specs.Select.{selectOf}
 use Rattle.commands_spec.specs.InitializeUpdate.{initializeUpdateOf}
 use Rattle.commands_spec.specs.ExternalAuthenticate.{authenticated, externalAuthenticateOf}
@@ -43,7 +44,7 @@ use Rattle.commands_spec.specs.PutKey.{putKeyOf}
 use Rattle.commands_spec.specs.PinChange.{pinChangeOf}
 use Rattle.commands_spec.specs.StoreData.{storeDataOf}
 use Rattle.commands_spec.specs.VerifyPin.{judged, verifyPinOf}
-use Rattle.commands_spec.specs.InitializeTransaction.{initializeJudged, noted, initializeTransactionOf}
+use Rattle.commands_spec.specs.InitializeTransaction.{noted, initializeTransactionOf}
 use Rattle.commands_spec.specs.CompleteTransaction.{completeTransactionOf}
 use Rattle.commands_spec.specs.GetData.{getDataOf}
 use Rattle.commands_spec.specs.PutData.{putDataOf}
@@ -198,10 +199,10 @@ module _ (c : Card) (s : Session) (command random : List ℕ) where
   plain-leaves : (p : Plain) (lc : ℕ) → L (IsPlain p) (plainOf p H (getD (c .log) (asked command) void) s (header command lc) command (dataOf command lc) random)
   unfolding plainOf selectOf initializeUpdateOf verifyPinOf getDataOf readRecordOf refused done ended reselected offered pendingAfter verifiedAfter selectedAfter touches isOne refusals
   plain-leaves Select lc =
-      pick-holds (L (IsPlain Select)) (same (dataOf command lc) (take (H .fixed .aidlen) (H .fixed .aid))) _ _
+      pick-holds (L (IsPlain Select)) (same (dataOf command lc) (take (H .purse .aid .size) (H .purse .aid .bytes))) _ _
       (λ t. search never) (λ t. search never)
   plain-leaves InitializeUpdate lc =
-      pick-holds (L (IsPlain InitializeUpdate)) (not (keysOf (setOf (byteAt command 2)) H .defined)) _ _
+      pick-holds (L (IsPlain InitializeUpdate)) (not (keySetOf (setOf (byteAt command 2)) H .defined)) _ _
       (λ t. search never) (λ t. search never)
   plain-leaves ExternalAuthenticate lc = authenticate-leaves (s .pending) (byteAt command 2) (dataOf command lc)
   plain-leaves VerifyPin lc =
@@ -214,7 +215,7 @@ module _ (c : Card) (s : Session) (command random : List ℕ) where
 
   signed-leaves : (g : Signed) (lc : ℕ) → Accepted s command g lc
       → L (IsSigned g) (signedOf g H (chained (macOf s command lc) s) (header command lc) (dataOf command (lc - macSize)))
-  unfolding signedOf putKeyOf pinChangeOf storeDataOf initializeTransactionOf initializeJudged completeTransactionOf putDataOf refused done ended chained flagged answered pendingAfter verifiedAfter selectedAfter touches isOne refusals signedLength
+  unfolding signedOf putKeyOf pinChangeOf storeDataOf initializeTransactionOf completeTransactionOf putDataOf refused done ended chained flagged answered pendingAfter verifiedAfter selectedAfter touches isOne refusals signedLength
   signed-leaves PutKey lc f =
       decided-either (L (IsSigned PutKey)) _ _ _ _ (λ t. search never) (search never)
   signed-leaves PinChange lc f =
@@ -227,7 +228,7 @@ module _ (c : Card) (s : Session) (command random : List ℕ) where
   signed-leaves InitializeTransaction lc f =
       let k : lc ≡ 12 = eqb-true lc 12 (f .long) in
       let a : wordAt (dataOf command (lc - macSize)) 2 ≡ wordAt command 7 = rw k (word-in-part command 5 4 2 (omega arith)) in
-      decided-holds (L (IsSigned InitializeTransaction)) refusals _ _ _ _ (initialize-judged _ _ _ _ _ _ _ _ _ _ _ _ _)
+      decided-holds (L (IsSigned InitializeTransaction)) refusals _ _ _ _ (initialize-judged _ _ _ _ _)
       (λ t. record { pending = ap (noted (byteAt command 2)) a; verified = refl; selected = refl; channel = λ e. search })
       (λ j. record { pending = rw (other refusals _ 0x9000 j refl); verified = refl; selected = refl; channel = λ e. search })
   signed-leaves CompleteTransaction lc f =

@@ -1,4 +1,4 @@
--- What PUT KEY, PUT DATA and STORE DATA set keeps to the card's sizes and ranges. Assumes nothing.
+-- What PUT DATA and STORE DATA set keeps to the card's sizes and ranges. Assumes nothing.
 use mathlib.Core.Bool.{Bool, true, false, _&&_, _||_}
 use mathlib.Core.List.{List, [], _∷_}
 use mathlib.Core.Path.{_≡_, refl, ap, _∙_}
@@ -7,45 +7,37 @@ use native.Mathlib.Omega.{arith}
 use native.Mathlib.Nat.{zero-add, min-eq-left}
 use borrow.Author.Tests.{eqb-true, leb-true, le-leb}
 use lib.Dec.{leb, eqb}
-use lib.ListN.{length, getD, take, drop, length-drop, length-replicate}
+use lib.ListN.{length, getD, take, drop, length-drop}
 use lib.Seq.{getD-drop}
 use Rattle.octets.specs.Tests.{allTrue}
-use Rattle.octets.specs.Bytes.{AreBytes, byteAt, field, allZero}
+use Rattle.octets.specs.Bytes.{AreBytes, Octets, byteAt, field, allZero}
 use Rattle.octets.specs.Words.{wordAt}
 use Rattle.octets.proofs.Conditions.{all-true, and-both}
 use Rattle.octets.proofs.Parts.{byte-past, length-field, field-at}
 use Rattle.octets.proofs.Numbers.{word-at-below}
-use Rattle.octets.proofs.Ranges.{zeros-bytes, take-bytes, drop-bytes, field-bytes}
+use Rattle.octets.proofs.Octets.{zeros-octets, field-octets}
+use Rattle.octets.proofs.Ranges.{take-bytes, drop-bytes, field-bytes}
 use Rattle.octets.proofs.Equality.{zeros-zero, bytes-zero}
 use Rattle.octets.proofs.Rules.{pick-holds}
 use Rattle.card.specs.declared.head.Bank.{Bank}
-use Rattle.card.specs.declared.head.Agent.{Agent}
+use Rattle.card.specs.declared.head.Aid.{Aid}
 use Rattle.card.specs.declared.head.Head.{Head}
-use Rattle.card.specs.Proper.{bankOk, agentOk, Bytes, Keys}
+use Rattle.card.specs.Proper.{bankOk, agentOk}
 use Rattle.channel.proofs.Results.{length-bankReceived, bytes-bankReceived}
 use Rattle.commands_spec.specs.declared.store.Stored.{Stored}
-use Rattle.commands_spec.specs.Updates.{withParameters, withMaxnumber}
+use Rattle.card.specs.Updates.{withPurse, withParameters, withMaxnumber}
 use Rattle.commands_spec.specs.Data.{maximumOk, agentLength, valueOk, bankOf, agentOf, parameterSet, datumSet}
-use Rattle.commands_spec.specs.PutKey.{keySet}
-use Rattle.commands_spec.specs.StoreData.{spoiled, acceptable, stored, storedAll}
-use Rattle.commands_spec.proofs.Arrays.{field-bytes-of}
+use Rattle.commands_spec.specs.StoreData.{rejected, acceptable, stored, storedAll}
 use Rattle.commands_spec.proofs.ProperChanges.{Settled}
-
--- ---- keys
-
--- PUT KEY's key set
-pub key-set-keys : (l : List ℕ) → AreBytes l → Keys (keySet l)
-unfolding keySet
-key-set-keys l f = record { enc = field-bytes-of l _ 16 f; mac = field-bytes-of l _ 16 f; dek = field-bytes-of l _ 16 f }
 
 -- ---- the values of the tags
 
 module _ (dek v : List ℕ) (f : AreBytes v) where
-  bank-bytes : Bytes 16 (bankOf dek v .value)
+  bank-bytes : Octets 16 (bankOf dek v .value)
   unfolding bankOf
   bank-bytes =
-      pick-holds (λ (b : Bank). Bytes 16 (b .value)) (eqb (length v) 0) _ _
-      (λ e. record { size = length-replicate {A = ℕ} 16 0; each = zeros-bytes 16 })
+      pick-holds (λ (b : Bank). Octets 16 (b .value)) (eqb (length v) 0) _ _
+      (λ e. zeros-octets 16)
       (λ e.
       let x = field v 0 16 in
       record { size = length-bankReceived dek x ∙ length-field v 0 16; each = bytes-bankReceived dek x (field-bytes v 0 16 f) })
@@ -81,7 +73,7 @@ agent-tests v n k e =
 
 agent-ok : (v : List ℕ) → agentLength (length v) ≡ true → agentOk (agentOf v) ≡ true
 unfolding agentOk agentOf
-agent-ok v e = let h = agent-parts (length v) e .1 in agent-tests v (agentOf v .length) (min-eq-left h) e
+agent-ok v e = let h = agent-parts (length v) e .1 in agent-tests v (agentOf v .size) (min-eq-left h) e
 
 -- ---- what a tag's value tells
 
@@ -104,41 +96,15 @@ module _ (tag : ℕ) (v : List ℕ) (k : valueOk tag v ≡ true) where
 
 -- ---- one value more
 
--- what isn't a value of a tag
-pub record SameElse (h next : Head) : Type 0 where
-  pub personalized : next .purse .parameters .personalized ≡ h .purse .parameters .personalized
-  pub debit : next .purse .debit ≡ h .purse .debit
-  pub credit : next .purse .credit ≡ h .purse .credit
-  pub admin : next .shared .admin ≡ h .shared .admin
-  pub pin : next .pin ≡ h .pin
-
--- a value sets nothing else
-pub datum-same : (dek : List ℕ) (tag : ℕ) (v : List ℕ) (h : Head) → SameElse h (datumSet dek tag v h)
-unfolding datumSet withMaxnumber withParameters parameterSet
-datum-same dek tag v h =
-    pick-holds (SameElse h) (eqb tag 0x05) _ _
-    (λ e. record { personalized = refl; debit = refl; credit = refl; admin = refl; pin = refl })
-    (λ e. record { personalized = refl; debit = refl; credit = refl; admin = refl; pin = refl })
-
 -- a value of its length and range keeps to sizes and ranges
 pub datum-settled : (dek : List ℕ) (tag : ℕ) (v : List ℕ) (h : Head) → AreBytes v → valueOk tag v ≡ true → Settled h → Settled (datumSet dek tag v h)
-unfolding datumSet withMaxnumber withParameters parameterSet agentOf
+unfolding datumSet withMaxnumber withParameters withPurse parameterSet agentOf
 datum-settled dek tag v h f k s =
     let z = s .sized in
+    let q = z .purse in
     pick-holds Settled (eqb tag 0x05) _ _
     (λ e. record {
-      sized = record {
-        aid = z .aid;
-        maxnumber = word-at-below v 0 f;
-        admin = z .admin;
-        identifier = z .identifier;
-        currency = z .currency;
-        bank = z .bank;
-        agent = z .agent;
-        debit = z .debit;
-        credit = z .credit;
-        pin = z .pin;
-      };
+      sized = record { maxnumber = word-at-below v 0 f; admin = z .admin; purse = q; pin = z .pin };
       maxbalance = s .maxbalance;
       maxdebit = s .maxdebit;
       bank = s .bank;
@@ -146,60 +112,40 @@ datum-settled dek tag v h f k s =
     })
     (λ e. record {
       sized = record {
-        aid = z .aid;
         maxnumber = z .maxnumber;
         admin = z .admin;
-        identifier = pick-holds (Bytes 4) (eqb tag 0x01) _ _ (λ t. field-bytes-of v 0 4 f) (λ t. z .identifier);
-        currency = pick-holds (λ (n : ℕ). n < 65536) (eqb tag 0x02) _ _ (λ t. word-at-below v 0 f) (λ t. z .currency);
-        bank = pick-holds (λ (b : Bank). Bytes 16 (b .value)) (eqb tag 0x06) _ _ (λ t. bank-bytes dek v f) (λ t. z .bank);
-        agent = pick-holds (λ (a : Agent). Bytes 16 (a .value)) (eqb tag 0x07) _ _ (λ t. field-bytes-of v 0 16 f) (λ t. z .agent);
-        debit = z .debit;
-        credit = z .credit;
+        purse = record {
+          aid = q .aid;
+          identifier = pick-holds (Octets 4) (eqb tag 0x01) _ _ (λ t. field-octets v 0 4 f) (λ t. q .identifier);
+          currency = pick-holds (λ (n : ℕ). n < 65536) (eqb tag 0x02) _ _ (λ t. word-at-below v 0 f) (λ t. q .currency);
+          bank = pick-holds (λ (b : Bank). Octets 16 (b .value)) (eqb tag 0x06) _ _ (λ t. bank-bytes dek v f) (λ t. q .bank);
+          agent = pick-holds (λ (a : Aid). Octets 16 (a .bytes)) (eqb tag 0x07) _ _ (λ t. field-octets v 0 16 f) (λ t. q .agent);
+          debit = q .debit;
+          credit = q .credit;
+        };
         pin = z .pin;
       };
       maxbalance = pick-holds (λ (n : ℕ). n ≤ 32767) (eqb tag 0x03) _ _ (λ t. maximum tag v k t) (λ t. s .maxbalance);
       maxdebit = pick-holds (λ (n : ℕ). n ≤ 32767) (eqb tag 0x04) _ _ (λ t. maximum-debit tag v k t) (λ t. s .maxdebit);
       bank = pick-holds (λ (b : Bank). bankOk b ≡ true) (eqb tag 0x06) _ _ (λ t. bank-ok dek v f) (λ t. s .bank);
-      agent = pick-holds (λ (a : Agent). agentOk a ≡ true) (eqb tag 0x07) _ _ (λ t. agent-ok v (agent-length tag v k t)) (λ t. s .agent);
+      agent = pick-holds (λ (a : Aid). agentOk a ≡ true) (eqb tag 0x07) _ _ (λ t. agent-ok v (agent-length tag v k t)) (λ t. s .agent);
     })
 
 -- ---- all values of STORE DATA
 
--- only values of tags were set, and each keeps to its range
-pub record OnlyValues (h : Head) (st : Stored) : Type 0 where
-  pub settled : Settled (st .head)
-  pub same : SameElse h (st .head)
-
--- before the first
-pub same-itself : (h : Head) → SameElse h h
-same-itself h = record { personalized = refl; debit = refl; credit = refl; admin = refl; pin = refl }
-
-same-then : {a b d : Head} → SameElse a b → SameElse b d → SameElse a d
-same-then p q =
-    record {
-      personalized = q .personalized ∙ p .personalized;
-      debit = q .debit ∙ p .debit;
-      credit = q .credit ∙ p .credit;
-      admin = q .admin ∙ p .admin;
-      pin = q .pin ∙ p .pin;
-    }
-
-stored-kept : (h : Head) (dek : List ℕ) (st : Stored) (tag : ℕ) (v : List ℕ) → AreBytes v → OnlyValues h st → OnlyValues h (stored dek st tag v)
-unfolding stored acceptable spoiled
-stored-kept h dek st tag v f k =
-    pick-holds (OnlyValues h) (acceptable (st .seen) tag v) _ _
-    (λ e. record {
-      settled = datum-settled dek tag v (st .head) f (and-both (leb 0x01 tag && leb tag 0x07 && eqb (getD (st .seen) tag 0) 0) (valueOk tag v) e .1) (k .settled);
-      same = same-then (k .same) (datum-same dek tag v (st .head));
-    })
-    (λ e. record { settled = k .settled; same = k .same })
+stored-settled : (dek : List ℕ) (st : Stored) (tag : ℕ) (v : List ℕ) → AreBytes v → Settled (st .head) → Settled (stored dek st tag v .head)
+unfolding stored acceptable rejected
+stored-settled dek st tag v f k =
+    pick-holds (λ (x : Stored). Settled (x .head)) (acceptable (st .seen) tag v) _ _
+    (λ e. datum-settled dek tag v (st .head) f (and-both (leb 0x01 tag && leb tag 0x07 && eqb (getD (st .seen) tag 0) 0) (valueOk tag v) e .1) k)
+    (λ e. k)
 
 -- whatever TLVs there are
-pub all-kept : (n : ℕ) (h : Head) (dek l : List ℕ) (st : Stored) → AreBytes l → OnlyValues h st → OnlyValues h (storedAll n dek l st)
+pub all-settled : (n : ℕ) (dek l : List ℕ) (st : Stored) → AreBytes l → Settled (st .head) → Settled (storedAll n dek l st .head)
 unfolding storedAll
-all-kept zero h dek l st f k = k
-all-kept (suc n) h dek [] st f k = k
-all-kept (suc n) h dek (tag ∷ []) st f k = k
-all-kept (suc n) h dek (tag ∷ size ∷ l) st f k =
+all-settled zero dek l st f k = k
+all-settled (suc n) dek [] st f k = k
+all-settled (suc n) dek (tag ∷ []) st f k = k
+all-settled (suc n) dek (tag ∷ size ∷ l) st f k =
     let g : AreBytes l = λ i. f (suc (suc i)) in
-    all-kept n h dek (drop size l) (stored dek st tag (take size l)) (drop-bytes size l g) (stored-kept h dek st tag (take size l) (take-bytes size l g) k)
+    all-settled n dek (drop size l) (stored dek st tag (take size l)) (drop-bytes size l g) (stored-settled dek st tag (take size l) (take-bytes size l g) k)

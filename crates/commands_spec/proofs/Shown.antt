@@ -15,7 +15,7 @@ use Rattle.commands_spec.specs.Shown.{bit, Administrative, Operational}
 pub administrative-shown : (h : Head) (flag : Bool) → Administrative h flag (administrative h flag)
 unfolding administrative
 administrative-shown h flag =
-    let k = bits (h .purse .parameters .personalized) (h .purse .parameters .bank .defined && h .pin .defined) (not (eqb (h .purse .parameters .agent .length) 0)) flag in
+    let k = bits (h .purse .parameters .personalized) (h .purse .parameters .bank .defined && h .pin .defined) (not (eqb (h .purse .parameters .agent .size) 0)) flag in
     record { low = k .0; personalized = k .1; bank = k .2; agent = k .3; validated = k .4 }
   where
     bits : (p b a v : Bool)
@@ -49,5 +49,5 @@ operational-shown h =
       balance = word-read _;
       all-of-it = λ k. word-read _ ∙ min-eq-left k;
       at-most = λ k. word-read _ ∙ min-eq-right k;
-      credit = λ k. omega (arith, word-read (h .purse .parameters .maxbalance - h .state .balance));
+      credit = λ k. omega (arith, word-read (h .purse .parameters .maxbalance - h .purse .balance));
     }

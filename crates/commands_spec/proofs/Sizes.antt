@@ -20,8 +20,10 @@ use Rattle.octets.proofs.Octets.{append-octets, zeros-octets, word-octets}
 use Rattle.octets.proofs.Holding.{content-holding}
 use Rattle.octets.proofs.Rules.{pick-holds}
 use Rattle.card.specs.declared.head.Head.{Head}
-use Rattle.card.specs.Card.{Card, recordSize, void}
+use Rattle.card.specs.Log.{recordSize, void, recordBytes}
+use Rattle.card.specs.Card.{Card}
 use Rattle.card.specs.Proper.{Proper}
+use Rattle.card.proofs.Bytes.{record-octets}
 use Rattle.session.specs.declared.Pending.{Pending}
 use Rattle.session.specs.declared.Pending.the-variants.{Nothing, Update, Debiting, Crediting}
 use Rattle.session.specs.declared.Session.{Session}
@@ -38,11 +40,12 @@ use Rattle.apdu.specs.Parsing.{dataOf}
 use Rattle.apdu.specs.Parameters.{hasRecord}
 use Rattle.apdu.specs.Lengths.{macSize, plainLength}
 use Rattle.apdu.proofs.Shapes.{header}
-use Rattle.commands_spec.specs.declared.outcome.Effect.{Effect}
+use Rattle.commands_spec.specs.declared.outcome.Commits.{Commits}
 use Rattle.commands_spec.specs.declared.outcome.Outcome.{Outcome}
 use Rattle.commands_spec.specs.Outcomes.{refused, done}
 use Rattle.commands_spec.specs.Status.{operational}
-use Rattle.commands_spec.specs.Updates.{withState, keysOf, dekOf}
+use Rattle.card.specs.Updates.{withState, withBalance, withPurse}
+use Rattle.commands_spec.specs.KeySets.{keySetOf, dekOf}
 use Rattle.commands_spec.specs.Data.{datum}
 use Rattle.commands_spec.specs.Select.{selectAnswer, selectOf}
 use Rattle.commands_spec.specs.InitializeUpdate.{offer, updateAnswer, initializeUpdateOf}
@@ -52,7 +55,7 @@ use Rattle.commands_spec.specs.PinChange.{pinChangeOf}
 use Rattle.commands_spec.specs.StoreData.{storeDataOf}
 use Rattle.commands_spec.specs.VerifyPin.{judged, verifyPinOf}
 use Rattle.commands_spec.specs.InitializeTransaction.{initializeAnswer, noted, initializeTransactionOf}
-use Rattle.commands_spec.specs.CompleteTransaction.{booked, completeJudged, completeAnswer, completeTransactionOf}
+use Rattle.commands_spec.specs.CompleteTransaction.{booked, completeAnswer, completeTransactionOf}
 use Rattle.commands_spec.specs.GetData.{getDataOf}
 use Rattle.commands_spec.specs.PutData.{putDataOf}
 use Rattle.commands_spec.specs.ReadRecord.{asked, readRecordOf}
@@ -63,7 +66,6 @@ use Rattle.commands_spec.proofs.Ways.{completedHead, completedAnswer}
 use Rattle.commands_spec.proofs.Words.{status-listed}
 use Rattle.commands_spec.proofs.Moves.{moved-balance}
 use Rattle.commands_spec.proofs.Facts.{facts}
-use Rattle.commands_spec.proofs.Arrays.{as-octets}
 
 -- what a call's types promise of its card, session, command and random bytes
 pub record Sound (c : Card) (s : Session) (command random : List ℕ) : Type 0 where
@@ -83,9 +85,9 @@ refused-fits : (h : Head) (t : Session) (w : ℕ) → Sized t → Fits (refused 
 unfolding refused
 refused-fits h t w z = record { short = omega arith; session = z }
 
-done-fits : (effect : Effect) (h : Head) (t : Session) (answer : List ℕ) → Sized t → length answer ≤ 30 → Fits (done effect h t answer)
+done-fits : (commits : Commits) (h : Head) (t : Session) (answer : List ℕ) → Sized t → length answer ≤ 30 → Fits (done commits h t answer)
 unfolding done
-done-fits effect h t answer z k =
+done-fits commits h t answer z k =
     let n = length-append answer (word 0x9000) in
     record { short = rw (content-holding (answer ++ word 0x9000)) (omega arith); session = z }
 
@@ -103,7 +105,7 @@ module _ (c : Card) (p : Proper c) where
   answer-short : (x : ℕ) → length (H .purse .parameters .identifier ++ x ∷ operational H) ≤ 30
   answer-short x =
       let a = length-append (H .purse .parameters .identifier) (x ∷ operational H) in
-      let b = p .sized .identifier .size in
+      let b = p .sized .purse .identifier .size in
       let d = length-operational H in
       omega arith
 
@@ -114,19 +116,19 @@ module _ (c : Card) (p : Proper c) where
   datum-short : (verified : Bool) (tag : ℕ) → length (datum H verified tag) ≤ 16
   unfolding datum
   datum-short verified tag =
-      pick-holds Q (eqb tag 0x01) _ _ (λ e. let a = p .sized .identifier .size in omega arith)
+      pick-holds Q (eqb tag 0x01) _ _ (λ e. let a = p .sized .purse .identifier .size in omega arith)
       (λ e. pick-holds Q (eqb tag 0x02) _ _ (λ e. omega arith)
       (λ e. pick-holds Q (eqb tag 0x03) _ _ (λ e. omega arith)
       (λ e. pick-holds Q (eqb tag 0x04) _ _ (λ e. omega arith)
       (λ e. pick-holds Q (eqb tag 0x05) _ _ (λ e. omega arith)
       (λ e. pick-holds Q (eqb tag 0x06) _ _
-      (λ e. pick-holds Q (H .purse .parameters .bank .defined) _ _ (λ e. let a = p .sized .bank .size in omega arith) (λ e. omega arith))
+      (λ e. pick-holds Q (H .purse .parameters .bank .defined) _ _ (λ e. let a = p .sized .purse .bank .size in omega arith) (λ e. omega arith))
       (λ e. pick-holds Q (eqb tag 0x07) _ _
       (λ e.
       let v = H .purse .parameters .agent in
-      let a = p .sized .agent .size in
-      let b = length-take (v .length) (v .value) in
-      let d = min-le-right (v .length) (length (v .value)) in
+      let a = p .sized .purse .agent .size in
+      let b = length-take (v .size) (v .bytes) in
+      let d = min-le-right (v .size) (length (v .bytes)) in
       omega arith)
       (λ e. pick-holds Q (eqb tag 0x14) _ _ (λ e. omega arith)
       (λ e. pick-holds Q (eqb tag 0x15) _ _ (λ e. omega arith)
@@ -138,8 +140,8 @@ module _ (c : Card) (p : Proper c) where
       Q l = length l ≤ 16
 
   -- the record that READ RECORD reads
-  read-size : (k : ℕ) → k < H .fixed .logsize → length (getD (c .log) k void) ≡ recordSize
-  read-size k h = let n = p .records in p .each k (omega arith) .size
+  read-size : (k : ℕ) → k < H .fixed .logsize → length (recordBytes (getD (c .log) k void)) ≡ recordSize
+  read-size k h = let n = p .records in record-octets (getD (c .log) k void) (p .each k (omega arith)) .size
 
   initialize-answer : (s : Session) (p1 : ℕ) → (length (initializeAnswer H s p1) ≤ 20) × AreBytes (initializeAnswer H s p1)
   unfolding initializeAnswer
@@ -147,30 +149,30 @@ module _ (c : Card) (p : Proper c) where
       let i = H .purse .parameters .identifier in
       let v = H .purse .parameters .bank .value in
       let x = bankSent (dekOf (s .channel .level) H) v in
-      let n : length i ≡ 4 = p .sized .identifier .size in
+      let n : length i ≡ 4 = p .sized .purse .identifier .size in
       pick-holds (λ (l : List ℕ). (length (i ++ l) ≤ 20) × AreBytes (i ++ l)) (eqb p1 0x02) x []
       (λ e.
       let a = length-append i x in
       let b : length x ≡ length v = length-bankSent (dekOf (s .channel .level) H) v in
-      let d : length v ≡ 16 = p .sized .bank .size in
-      (omega arith, append-bytes i x (p .sized .identifier .each) (bytes-bankSent (dekOf (s .channel .level) H) v (p .sized .bank .each))))
+      let d : length v ≡ 16 = p .sized .purse .bank .size in
+      (omega arith, append-bytes i x (p .sized .purse .identifier .each) (bytes-bankSent (dekOf (s .channel .level) H) v (p .sized .purse .bank .each))))
       (λ e.
       let a = length-append i [] in
-      (omega arith, append-bytes i [] (p .sized .identifier .each) none-bytes))
+      (omega arith, append-bytes i [] (p .sized .purse .identifier .each) none-bytes))
 
 -- what COMPLETE TRANSACTION sends, of a head whose numbers are small
 complete-answer : (h : Head) → Octets 4 (h .purse .parameters .identifier) → h .purse .parameters .currency < 65536 → h .shared .maxnumber < 65536
-    → h .state .number < 65536 → h .state .balance < 65536 → h .purse .parameters .maxbalance < 65536 → Octets 16 (completeAnswer h)
+    → h .state .number < 65536 → h .purse .balance < 65536 → h .purse .parameters .maxbalance < 65536 → Octets 16 (completeAnswer h)
 unfolding completeAnswer operational
 complete-answer h i c m n x y =
-    let k = min-le-left (h .state .balance) (h .purse .parameters .maxdebit) in
+    let k = min-le-left (h .purse .balance) (h .purse .parameters .maxdebit) in
     append-octets (append-octets i (word-octets (h .state .number) n))
     (append-octets (append-octets (append-octets (append-octets
     (word-octets (h .shared .maxnumber - h .state .number) (omega arith))
     (word-octets (h .purse .parameters .currency) c))
-    (word-octets (h .state .balance) x))
-    (word-octets (min (h .state .balance) (h .purse .parameters .maxdebit)) (omega arith)))
-    (word-octets (h .purse .parameters .maxbalance - h .state .balance) (omega arith)))
+    (word-octets (h .purse .balance) x))
+    (word-octets (min (h .purse .balance) (h .purse .parameters .maxdebit)) (omega arith)))
+    (word-octets (h .purse .parameters .maxbalance - h .purse .balance) (omega arith)))
 
 noted-small : (p1 amount : ℕ) → amount < 65536 → amountOf (noted p1 amount) < 65536
 unfolding noted amountOf
@@ -212,20 +214,21 @@ module _ (c : Card) (s : Session) (command random : List ℕ) (i : Sound c s com
       let f : AreBytes host = part-bytes command 5 lc (i .bytes) in
       let m = i .drawn .size in
       let g = i .drawn .each in
-      let t = keysOf (setOf p1) B in
+      let a = keySetOf (setOf p1) B in
+      let t = a .keys in
       let o : SizedOffer (offer t host random) = record {
         enc = record { size = length-sessionKey (t .enc) host random n m; each = bytes-sessionKey (t .enc) host random f g };
         mac = record { size = length-sessionKey (t .mac) host random n m; each = bytes-sessionKey (t .mac) host random f g };
         expected = record { size = length-hostCryptogram _ host random; each = bytes-hostCryptogram _ host random f g };
       } in
-      pick-holds Fits (not (t .defined)) _ _ (λ e. early-fits 0x6A88)
+      pick-holds Fits (not (a .defined)) _ _ (λ e. early-fits 0x6A88)
       (λ e. done-fits _ B _ _ (offered-sized (i .sized) (setOf p1) o) (let q = length-cardCryptogram (offer t host random .enc) host random in simp (length-append, m, q) (omega arith)))
 
   plain-fits : (p : Plain) (lc : ℕ) → Passed c s command p lc
       → Fits (plainOf p B (getD (c .log) (asked command) void) s (header command lc) command (dataOf command lc) random)
   unfolding plainOf selectOf verifyPinOf getDataOf readRecordOf asked plainLength hasRecord
   plain-fits Select lc f =
-      pick-holds Fits (same (dataOf command lc) (take (B .fixed .aidlen) (B .fixed .aid))) _ _
+      pick-holds Fits (same (dataOf command lc) (take (B .purse .aid .size) (B .purse .aid .bytes))) _ _
       (λ t. done-fits _ B _ _ (reselected-sized (i .sized) true) (select-short c (i .proper) (s .verified)))
       (λ t. refused-fits B _ 0x6A82 (reselected-sized (i .sized) false))
   plain-fits InitializeUpdate lc f = update-fits lc (eqb-true lc 8 (f .long)) (f .within)
@@ -278,19 +281,19 @@ module _ (c : Card) (s : Session) (command random : List ℕ) (i : Sound c s com
         (still-fits _)
 
     complete-fits : (context : List ℕ) → Fits (completeTransactionOf B t context)
-    unfolding completeTransactionOf completeJudged withState booked amountOf
+    unfolding completeTransactionOf withState withBalance withPurse booked amountOf
     complete-fits context =
         decided-either Fits _ _ _ _
         (λ e.
-        let f = complete-passed (B .purse .parameters .personalized) _ _ _ (B .state .number) (B .shared .maxnumber) e in
+        let f = complete-passed B t e in
         let g = facts B (i .proper .tests) in
         let r : B .state .number < B .shared .maxnumber = f .room in
         let q : B .shared .maxnumber < 65536 = i .proper .sized .maxnumber in
         let x : B .purse .parameters .maxbalance ≤ 32767 = g .maxbalance in
-        let b = moved-balance (t .pending) (B .state .balance) (B .purse .parameters .maxbalance) (f .pending) (f .within) .1 (g .balance) in
+        let b = moved-balance (t .pending) (B .purse .balance) (B .purse .parameters .maxbalance) (f .pending) (f .within) .1 (g .balance) in
         let n = completedHead B t in
         let answer = completeAnswer n in
-        let a : Octets 16 answer = complete-answer n (as-octets (i .proper .sized .identifier)) (i .proper .sized .currency) q (omega arith) (omega arith) (omega arith) in
+        let a : Octets 16 answer = complete-answer n (i .proper .sized .purse .identifier) (i .proper .sized .purse .currency) q (omega arith) (omega arith) (omega arith) in
         let m = rmac-octets answer (a .each) in
         let l = append-octets (append-octets a m) (word-octets 0x9000 (omega arith)) .size in
         let k = content-holding (completedAnswer B t ++ word 0x9000) in

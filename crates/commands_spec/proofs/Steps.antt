@@ -13,7 +13,9 @@ use Rattle.octets.specs.Bytes.{byteAt, part, same}
 use Rattle.octets.proofs.Conditions.{and-both}
 use Rattle.octets.proofs.Rules.{passed, pick-holds}
 use Rattle.card.specs.declared.head.Head.{Head}
-use Rattle.card.specs.Card.{Card, void}
+use Rattle.card.specs.declared.log.Record.{Record}
+use Rattle.card.specs.Log.{void}
+use Rattle.card.specs.Card.{Card}
 use Rattle.session.specs.declared.Session.{Session}
 use Rattle.session.specs.Transitions.{ended, closed, chained}
 use Rattle.session.specs.Access.{isOpen}
@@ -166,7 +168,7 @@ module _ (c : Card) (s : Session) (command random : List ℕ) (P : Outcome → T
   abbrev H : Head
   H = c .head
 
-  abbrev R : List ℕ
+  abbrev R : Record
   R = getD (c .log) (asked command) void
 
   authorized-holds : (g : Signed) (lc : ℕ) → named command ≡ IsSigned g → (0 < lc → 5 + lc ≤ length command)

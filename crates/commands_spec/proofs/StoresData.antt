@@ -16,10 +16,11 @@ use Rattle.session.specs.Transitions.{ended, chained}
 use Rattle.session.specs.Access.{ADMIN}
 use Rattle.apdu.specs.Parameters.{isTag}
 use Rattle.commands_spec.specs.declared.store.Stored.{Stored}
-use Rattle.commands_spec.specs.declared.outcome.Effect.the-variants.{ParametersOnly}
+use Rattle.commands_spec.specs.declared.outcome.Commits.the-variants.{HotAndCold}
 use Rattle.commands_spec.specs.declared.outcome.Outcome.{Outcome}
 use Rattle.commands_spec.specs.Outcomes.{done, decided}
-use Rattle.commands_spec.specs.Updates.{withParameters, dekOf}
+use Rattle.card.specs.Updates.{withParameters, withPurse}
+use Rattle.commands_spec.specs.KeySets.{dekOf}
 use Rattle.commands_spec.specs.Data.{datum}
 use Rattle.commands_spec.specs.StoreData.{unread, complete, storeStatus, personalized}
 use Rattle.commands_spec.specs.Respond.{respond, cardAfter}
@@ -46,7 +47,7 @@ rules-pass p d k level good seen e f g h j q1 q2 q3 q4 q5 = rw (e, f, g, h, j, q
 
 -- of the tags 01 to 07 personalization itself changes none
 personalized-reads : (h : Head) (flag : Bool) (tag : ℕ) → tag ≤ 0x07 → datum (personalized h) flag tag ≡ datum h flag tag
-unfolding datum personalized withParameters
+unfolding datum personalized withParameters withPurse
 personalized-reads h flag = up-to-seven (λ (n : ℕ). datum (personalized h) flag n ≡ datum h flag n) refl refl refl refl refl refl refl refl
 
 module _ (c : Card) (s : Session) (p1 : ℕ) (l : Level) (xs : List Tlv) (le random : List ℕ) (short : length le ≤ 1) (o : InChannel s l) (admin : LevelOf Admin p1 l)
@@ -76,7 +77,7 @@ module _ (c : Card) (s : Session) (p1 : ℕ) (l : Level) (xs : List Tlv) (le ran
         (rules-pass _ _ _ _ _ _ unpersonal debit credit refl (left-taken .good) (left-taken .came 0x01 v1 has1) (left-taken .came 0x02 v2 has2) (left-taken .came 0x03 v3 has3)
         (left-taken .came 0x04 v4 has4) (left-taken .came 0x05 v5 has5))
 
-    store-outcome : respond c s (storing s xs le) random ≡ done ParametersOnly (personalized (left .head)) (ended moved) []
+    store-outcome : respond c s (storing s xs le) random ≡ done HotAndCold (personalized (left .head)) (ended moved) []
     unfolding decided chained
     store-outcome =
         let a = admin-channel p1 l (c .head) admin in
@@ -94,7 +95,7 @@ module _ (c : Card) (s : Session) (p1 : ℕ) (l : Level) (xs : List Tlv) (le ran
 
     -- the card is personalized
     pub store-personalizes : cardAfter c s (storing s xs le) random .head .purse .parameters .personalized ≡ true
-    unfolding personalized withParameters
+    unfolding personalized withParameters withPurse
     store-personalizes = ap (λ (h : Head). h .purse .parameters .personalized) store-head
 
     -- each value stands under its tag

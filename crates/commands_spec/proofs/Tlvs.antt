@@ -13,7 +13,7 @@ use Rattle.octets.proofs.Conditions.{and-both}
 use Rattle.octets.proofs.Rules.{pick-holds}
 use Rattle.commands_spec.specs.declared.store.Stored.{Stored}
 use Rattle.commands_spec.specs.Data.{valueOk, datumSet}
-use Rattle.commands_spec.specs.StoreData.{within, spoiled, acceptable, stored, storedAll}
+use Rattle.commands_spec.specs.StoreData.{within, rejected, acceptable, stored, storedAll}
 use Rattle.commands_spec.specs.Values.{Tlv, flat}
 use Rattle.commands_spec.specs.Order.{IsTlvs}
 
@@ -97,13 +97,13 @@ within-tlvs (suc n) (tag ∷ size ∷ l) h e =
 
 module _ (dek : List ℕ) where
   -- what was refused once stays refused
-  pub stays-spoiled : (st : Stored) (x : Tlv) → st .good ≡ false → stored dek st (x .tag) (x .sent) .good ≡ false
-  unfolding stored spoiled
-  stays-spoiled st x e = pick-holds (λ (y : Stored). y .good ≡ false) (acceptable (st .seen) (x .tag) (x .sent)) _ _ (λ t. e) (λ t. refl)
+  pub stays-rejected : (st : Stored) (x : Tlv) → st .good ≡ false → stored dek st (x .tag) (x .sent) .good ≡ false
+  unfolding stored rejected
+  stays-rejected st x e = pick-holds (λ (y : Stored). y .good ≡ false) (acceptable (st .seen) (x .tag) (x .sent)) _ _ (λ t. e) (λ t. refl)
 
   -- a TLV that isn't acceptable spoils
   pub refused-spoils : (st : Stored) (x : Tlv) → acceptable (st .seen) (x .tag) (x .sent) ≡ false → stored dek st (x .tag) (x .sent) .good ≡ false
-  unfolding stored spoiled
+  unfolding stored rejected
   refused-spoils st x e = rw e
 
   module _ (st : Stored) (eight : length (st .seen) ≡ 8) where

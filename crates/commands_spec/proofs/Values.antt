@@ -20,7 +20,7 @@ use Rattle.card.specs.declared.head.Head.{Head}
 use Rattle.apdu.specs.Parameters.{isTag}
 use Rattle.channel.specs.Channel.{bankSent, bankReceived}
 use Rattle.channel.proofs.Results.{length-bankSent, length-bankReceived, bytes-bankReceived, bank-back, bank-sent-back}
-use Rattle.commands_spec.specs.Updates.{withParameters, withMaxnumber}
+use Rattle.card.specs.Updates.{withParameters, withMaxnumber, withPurse}
 use Rattle.commands_spec.specs.Status.{administrative}
 use Rattle.commands_spec.specs.Data.{maximumOk, bankLength, agentLength, valueOk, bankOf, agentOf, parameterSet, datumSet, datum}
 use Rattle.commands_spec.specs.Values.{Value, identifier, currency, maximum-balance, maximum-debit, maximum-number, bank, no-bank, agent, no-agent, KnownTag, known-value, known-variable}
@@ -77,7 +77,7 @@ module _ (dek : List ℕ) where
 
   -- what is set under a tag is read under it
   pub value-read : {tag : ℕ} {v sent : List ℕ} (h : Head) (flag : Bool) → Value dek tag v sent → datum (datumSet dek tag sent h) flag tag ≡ v
-  unfolding datum datumSet parameterSet withParameters withMaxnumber bankOf agentOf bankSent
+  unfolding datum datumSet parameterSet withParameters withMaxnumber withPurse bankOf agentOf bankSent
   value-read h flag (identifier v l) = field-whole v 4 l
   value-read h flag (currency n) = ap word (word-read n)
   value-read h flag (maximum-balance n k) = ap word (word-read n)
@@ -92,7 +92,7 @@ module _ (dek : List ℕ) where
   -- and under no other of the tags 01 to 07
   pub value-apart : (tag other : ℕ) (sent : List ℕ) (h : Head) (flag : Bool) → other ≤ 0x07 → (tag ≡ other → ⊥)
       → datum (datumSet dek tag sent h) flag other ≡ datum h flag other
-  unfolding datum datumSet parameterSet withParameters withMaxnumber
+  unfolding datum datumSet parameterSet withParameters withMaxnumber withPurse
   value-apart tag other sent h flag =
       up-to-seven (λ (o : ℕ). (tag ≡ o → ⊥) → datum (datumSet dek tag sent h) flag o ≡ datum h flag o)
       (λ n. refl) (λ n. either 0x01 refl (rw (ne-eqb tag 0x01 n))) (λ n. either 0x02 refl (rw (ne-eqb tag 0x02 n)))

@@ -8,15 +8,15 @@ use native.Mathlib.Omega.{arith}
 use borrow.Author.Tests.{ne-eqb}
 use lib.Dec.{ltb}
 use lib.ListN.{length}
-use Rattle.octets.specs.Bytes.{same}
+use Rattle.octets.specs.Bytes.{Octets, same}
 use Rattle.octets.proofs.Equality.{same-refl, differ-same}
 use Rattle.des_spec.specs.Des.{encipher, decipher}
 use Rattle.des_spec.specs.Modes.{ecbText}
 use Rattle.des_spec.proofs.Texts.{length-ecbText}
 use Rattle.card.specs.Card.{Card}
 use Rattle.card.specs.Pin.{wellFormed}
-use Rattle.card.specs.Proper.{pinOk, Bytes, Proper}
-use Rattle.card.specs.Changes.{changed}
+use Rattle.card.specs.Proper.{pinOk, Proper}
+use Rattle.card.specs.Changes.{changed, headAfter, logAfter, after}
 use Rattle.session.specs.declared.Set.{Set}
 use Rattle.session.specs.declared.Set.the-variants.{Debit, Credit, Admin}
 use Rattle.session.specs.declared.Level.{Level}
@@ -30,8 +30,8 @@ use Rattle.apdu.specs.Lengths.{plainLength}
 use Rattle.apdu.specs.Early.{isSelect}
 use Rattle.channel.specs.Channel.{received}
 use Rattle.channel.proofs.Results.{received-back}
-use Rattle.commands_spec.specs.Outcomes.{done, decided, tried, changesOf, after}
-use Rattle.commands_spec.specs.Updates.{withState, withTries}
+use Rattle.commands_spec.specs.Outcomes.{done, decided, tried, changesOf, commitsOf}
+use Rattle.card.specs.Updates.{withState, withTries, withBalance, withPurse}
 use Rattle.commands_spec.specs.VerifyPin.{verifyStatus, judged, verifyPinOf}
 use Rattle.commands_spec.specs.Respond.{plainOf, respond, cardAfter}
 use Rattle.commands_spec.specs.Sent.{plainCommand}
@@ -66,7 +66,7 @@ module _ (c : Card) (s : Session) (set : Set) (p1 : ℕ) (l : Level) (le random 
 
   -- ---- the right PIN
 
-  module _ (block : Bytes 8 (c .head .pin .block)) where
+  module _ (block : Octets 8 (c .head .pin .block)) where
     -- the PIN "under the ENC session key"
     abbrev right : List ℕ
     right = ecbText encipher (s .channel .enc) (c .head .pin .block)
@@ -85,7 +85,7 @@ module _ (c : Card) (s : Session) (set : Set) (p1 : ℕ) (l : Level) (le random 
     right-flags = rw right-judged
 
     pub right-fills : cardAfter c s (plainCommand 0x94 0x20 0x00 0x00 right le) random ≡ triesLeft (c .head .fixed .maxtries) c
-    unfolding cardAfter judged done changesOf after changed withTries withState triesLeft
+    unfolding cardAfter judged done commitsOf changesOf after changed headAfter logAfter withState withTries withBalance withPurse triesLeft
     right-fills = rw right-judged
 
   -- ---- any other
@@ -104,7 +104,7 @@ module _ (c : Card) (s : Session) (set : Set) (p1 : ℕ) (l : Level) (le random 
     wrong-unflags = rw wrong-judged
 
     pub wrong-costs : cardAfter c s (plainCommand 0x94 0x20 0x00 0x00 sent le) random ≡ triesLeft (c .head .state .tries - 1) c
-    unfolding cardAfter judged changesOf after changed withState tried triesLeft
+    unfolding cardAfter judged commitsOf changesOf after changed headAfter logAfter withState withBalance withPurse tried triesLeft
     wrong-costs = rw wrong-judged
 
   -- ---- an ill-formed one: the PIN of a card is well formed, so it is another

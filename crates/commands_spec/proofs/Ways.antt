@@ -10,9 +10,11 @@ use lib.Dec.{eqb}
 use lib.ListN.{length, getD, take}
 use Rattle.octets.specs.Bytes.{zeros, byteAt, part, same}
 use Rattle.octets.proofs.Rules.{pick-holds}
+use Rattle.card.specs.declared.head.State.{State}
 use Rattle.card.specs.declared.head.Head.{Head}
-use Rattle.card.specs.Card.{Card, void}
-use Rattle.card.specs.Changes.{Change, changed}
+use Rattle.card.specs.Log.{void}
+use Rattle.card.specs.Card.{Card}
+use Rattle.card.specs.Changes.{changed, headAfter, logAfter, purseAfter, after}
 use Rattle.session.specs.declared.Pending.{Pending}
 use Rattle.session.specs.declared.Pending.the-variants.{Nothing, Update, Debiting, Crediting}
 use Rattle.session.specs.declared.Session.{Session}
@@ -28,38 +30,37 @@ use Rattle.apdu.specs.declared.instructions.Instruction.the-variants.{IsPlain, 
 use Rattle.apdu.specs.Parsing.{dataOf}
 use Rattle.apdu.specs.Lengths.{macSize, signedLength}
 use Rattle.apdu.proofs.Shapes.{header}
-use Rattle.commands_spec.specs.declared.outcome.Effect.{Effect}
-use Rattle.commands_spec.specs.declared.outcome.Effect.the-variants.{Unchanged, StateOnly, ParametersOnly, StateAndParameters}
+use Rattle.commands_spec.specs.declared.outcome.Commits.{Commits}
+use Rattle.commands_spec.specs.declared.outcome.Commits.the-variants.{Unchanged, Hot, HotAndCold}
 use Rattle.commands_spec.specs.declared.outcome.Outcome.{Outcome}
-use Rattle.commands_spec.specs.Outcomes.{refused, done, decided, changesOf, after}
+use Rattle.commands_spec.specs.Outcomes.{refused, done, decided, changesOf, commitsOf}
 use Rattle.commands_spec.specs.Words.{isOne, refusals}
-use Rattle.commands_spec.specs.Updates.{withState, withTries, withPin, keysOf}
+use Rattle.card.specs.Updates.{withState, withTries, withPin, withParameters, withBalance, withPurse}
+use Rattle.commands_spec.specs.KeySets.{keySetOf}
 use Rattle.commands_spec.specs.Select.{selectOf}
 use Rattle.commands_spec.specs.InitializeUpdate.{initializeUpdateOf}
 use Rattle.commands_spec.specs.ExternalAuthenticate.{authenticated, externalAuthenticateOf}
 use Rattle.commands_spec.specs.PutKey.{putKeyOf}
 use Rattle.commands_spec.specs.PinChange.{pinChangeOf}
-use Rattle.commands_spec.specs.StoreData.{storeDataOf}
+use Rattle.commands_spec.specs.StoreData.{personalized, storeDataOf}
 use Rattle.commands_spec.specs.VerifyPin.{judged, verifyPinOf}
-use Rattle.commands_spec.specs.InitializeTransaction.{initializeJudged, initializeTransactionOf}
-use Rattle.commands_spec.specs.CompleteTransaction.{isDebit, booked, completeJudged, completeAnswer, completeTransactionOf}
+use Rattle.commands_spec.specs.InitializeTransaction.{initializeTransactionOf}
+use Rattle.commands_spec.specs.CompleteTransaction.{isDebit, booked, completeStatus, completeAnswer, completeTransactionOf}
 use Rattle.commands_spec.specs.GetData.{getDataOf}
 use Rattle.commands_spec.specs.PutData.{putDataStatus, putDataOf}
 use Rattle.commands_spec.specs.ReadRecord.{asked, readRecordOf}
 use Rattle.commands_spec.specs.Respond.{plainOf, signedOf, named, respond}
 use Rattle.commands_spec.proofs.Steps.{Judged, early-refusal, decided-holds, macOf, Passed, Accepted, respond-holds}
 use Rattle.commands_spec.proofs.Judgements.{put-key-judged, pin-judged, store-judged, verify-judged, initialize-judged, complete-judged, data-judged, verify-tries}
+use Rattle.commands_spec.proofs.SameElse.{Rest, head-reached, keys-rest, same-itself, datum-same, all-same}
 
--- the changes that an outcome makes on a card, and the card that it leaves
-abbrev pub changes : Card → Outcome → List Change
-changes c o = changesOf (o .effect) (c .head .state) (o .head) (o .entry)
-
+-- the card that an outcome leaves
 abbrev pub afterwards : Card → Outcome → Card
-afterwards c o = after (changes c o) c
+afterwards c o = after (commitsOf o) c
 
 -- what COMPLETE TRANSACTION leaves and sends, its status word apart
 abbrev pub completedHead : Head → Session → Head
-completedHead h s = withState (booked (isDebit (s .pending)) (amountOf (s .pending)) (h .state)) h
+completedHead h s = booked (isDebit (s .pending)) (amountOf (s .pending)) h
 
 abbrev pub completedAnswer : Head → Session → List ℕ
 completedAnswer h s =
@@ -68,7 +69,7 @@ completedAnswer h s =
 
 -- balance, number and log are as before
 pub record Kept (c d : Card) : Type 0 where
-  pub balance : d .head .state .balance ≡ c .head .state .balance
+  pub balance : d .head .purse .balance ≡ c .head .purse .balance
   pub number : d .head .state .number ≡ c .head .state .number
   pub log : d .log ≡ c .log
 
@@ -89,19 +90,38 @@ ownWay (IsSigned PutData) = false
 ownWay UnknownClass = false
 ownWay UnknownInstruction = false
 
--- at most one change, and none of balance, number or log
-pub record Quiet (c : Card) (effect : Effect) (next : Head) : Type 0 where
-  pub few : length (changesOf effect (c .head .state) next void) ≤ 1
-  pub kept : Kept c (after (changesOf effect (c .head .state) next void) c)
+-- SELECT, INITIALIZE UPDATE, EXTERNAL AUTHENTICATE, INITIALIZE TRANSACTION, GET DATA and READ RECORD, and what is no command
+unfoldable pub isReader : Instruction → Bool
+isReader (IsPlain Select) = true
+isReader (IsPlain InitializeUpdate) = true
+isReader (IsPlain ExternalAuthenticate) = true
+isReader (IsPlain VerifyPin) = false
+isReader (IsPlain GetData) = true
+isReader (IsPlain ReadRecord) = true
+isReader (IsSigned PutKey) = false
+isReader (IsSigned PinChange) = false
+isReader (IsSigned StoreData) = false
+isReader (IsSigned InitializeTransaction) = true
+isReader (IsSigned CompleteTransaction) = false
+isReader (IsSigned PutData) = false
+isReader UnknownClass = true
+isReader UnknownInstruction = true
+
+-- at most one commit, which leaves that head; no change of balance, number or log; no commit of a reader
+pub record Quiet (c : Card) (i : Instruction) (commits : Commits) (next : Head) : Type 0 where
+  pub few : length (changesOf commits next void) ≤ 1
+  pub reached : after (changesOf commits next void) c .head ≡ next
+  pub kept : Kept c (after (changesOf commits next void) c)
+  pub reads : isReader i ≡ true → commits ≡ Unchanged
 
 -- the ways; each says what the outcome is
 pub data Way (c : Card) (s : Session) (command : List ℕ) (o : Outcome) : Type 0 where
   refuses : (w : ℕ) (t : Session) → isOne w refusals ≡ true → o ≡ refused (c .head) t w → Way c s command o
   mismatch : (t : Session) → named command ≡ IsPlain ExternalAuthenticate → o ≡ refused (c .head) t 0x6300 → Way c s command o
   judges : (right : Bool) → named command ≡ IsPlain VerifyPin → 0 < c .head .state .tries → o ≡ judged right (c .head) s → Way c s command o
-  answers : (effect : Effect) (next : Head) (t : Session) (answer : List ℕ) → ownWay (named command) ≡ false → Quiet c effect next
-      → o ≡ done effect next t answer → Way c s command o
-  books : (mac : List ℕ) → named command ≡ IsSigned CompleteTransaction → completeJudged (c .head) (chained mac s) ≡ 0x9000
+  answers : (commits : Commits) (next : Head) (t : Session) (answer : List ℕ) → ownWay (named command) ≡ false → Quiet c (named command) commits next
+      → o ≡ done commits next t answer → Way c s command o
+  books : (mac : List ℕ) → named command ≡ IsSigned CompleteTransaction → completeStatus (c .head) (chained mac s) ≡ 0x9000
       → o ≡ completeTransactionOf (c .head) (chained mac s) (part command 5 16) → Way c s command o
 
 -- a word that isn't one of them wasn't refused
@@ -113,22 +133,33 @@ not-refused h t w x o j e f n =
 
 -- ---- what keeps balance, number and log
 
-module _ (c : Card) where
-  unchanged : Quiet c Unchanged (c .head)
+module _ (c : Card) (i : Instruction) where
+  unchanged : Quiet c i Unchanged (c .head)
   unfolding after changesOf
-  unchanged = record { few = omega arith; kept = record { balance = refl; number = refl; log = refl } }
+  unchanged = record { few = omega arith; reached = refl; kept = record { balance = refl; number = refl; log = refl }; reads = λ e. refl }
 
-  parameters-only : (next : Head) → Quiet c ParametersOnly next
-  unfolding after changesOf changed
-  parameters-only next = record { few = omega arith; kept = record { balance = refl; number = refl; log = refl } }
+  module _ (n : isReader i ≡ false) where
+    writes : {commits : Commits} → isReader i ≡ true → commits ≡ Unchanged
+    writes e = absurd (false≢true (sym n ∙ e))
 
-  refilled : (n : ℕ) → Quiet c StateOnly (withTries n (c .head))
-  unfolding after changesOf changed withTries withState
-  refilled n = record { few = omega arith; kept = record { balance = refl; number = refl; log = refl } }
+    -- parameters or keys
+    settings : (next : Head) → Rest (c .head) next → Quiet c i HotAndCold next
+    unfolding after changesOf changed headAfter logAfter purseAfter
+    settings next r =
+        record {
+          few = omega arith;
+          reached = head-reached (c .head) next (r .fixed) (r .aid);
+          kept = record { balance = r .balance; number = ap (λ (s : State). s .number) (r .state); log = refl };
+          reads = writes;
+        }
 
-  new-pin : (block : List ℕ) → Quiet c StateAndParameters (withPin block (c .head))
-  unfolding after changesOf changed withPin
-  new-pin block = record { few = omega arith; kept = record { balance = refl; number = refl; log = refl } }
+    refilled : (n : ℕ) → Quiet c i Hot (withTries n (c .head))
+    unfolding after changesOf changed headAfter logAfter withTries withState withBalance withPurse
+    refilled n = record { few = omega arith; reached = refl; kept = record { balance = refl; number = refl; log = refl }; reads = writes }
+
+    new-pin : (block : List ℕ) → Quiet c i HotAndCold (withPin block (c .head))
+    unfolding after changesOf changed headAfter logAfter purseAfter withPin
+    new-pin block = record { few = omega arith; reached = refl; kept = record { balance = refl; number = refl; log = refl }; reads = writes }
 
 -- ---- the commands
 
@@ -140,10 +171,10 @@ module _ (c : Card) (s : Session) (command random : List ℕ) where
   refusal t w j = refuses w t j refl
 
   tells : (t : Session) (answer : List ℕ) → ownWay (named command) ≡ false → W (done Unchanged (c .head) t answer)
-  tells t answer n = answers Unchanged (c .head) t answer n (unchanged c) refl
+  tells t answer n = answers Unchanged (c .head) t answer n (unchanged c (named command)) refl
 
-  sets : (next : Head) (t : Session) → ownWay (named command) ≡ false → W (done ParametersOnly next t [])
-  sets next t n = answers ParametersOnly next t [] n (parameters-only c next) refl
+  sets : (next : Head) (t : Session) → ownWay (named command) ≡ false → isReader (named command) ≡ false → Rest (c .head) next → W (done HotAndCold next t [])
+  sets next t n m r = answers HotAndCold next t [] n (settings c (named command) m next r) refl
 
   authenticates : (pending : Pending) (p1 : ℕ) (body : List ℕ) → named command ≡ IsPlain ExternalAuthenticate
       → W (externalAuthenticateOf pending (c .head) s p1 command body)
@@ -156,16 +187,17 @@ module _ (c : Card) (s : Session) (command random : List ℕ) where
   authenticates (Debiting n) p1 body e = refusal (ended s) 0x6985 refl
   authenticates (Crediting n) p1 body e = refusal (ended s) 0x6985 refl
 
-  plain-way : (p : Plain) (lc : ℕ) → Passed c s command p lc
+  -- a plain command past step 5
+  pub plain-way : (p : Plain) (lc : ℕ) → Passed c s command p lc
       → W (plainOf p (c .head) (getD (c .log) (asked command) void) s (header command lc) command (dataOf command lc) random)
   unfolding plainOf selectOf initializeUpdateOf verifyPinOf getDataOf readRecordOf ownWay isOne refusals
   plain-way Select lc f =
       let e = f .names in
-      pick-holds W (same (dataOf command lc) (take (c .head .fixed .aidlen) (c .head .fixed .aid))) _ _
+      pick-holds W (same (dataOf command lc) (take (c .head .purse .aid .size) (c .head .purse .aid .bytes))) _ _
       (λ t. tells _ _ (rw e)) (λ t. refusal (reselected false s) 0x6A82 refl)
   plain-way InitializeUpdate lc f =
       let e = f .names in
-      pick-holds W (not (keysOf (setOf (byteAt command 2)) (c .head) .defined)) _ _ (λ t. refusal (ended s) 0x6A88 refl) (λ t. tells _ _ (rw e))
+      pick-holds W (not (keySetOf (setOf (byteAt command 2)) (c .head) .defined)) _ _ (λ t. refusal (ended s) 0x6A88 refl) (λ t. tells _ _ (rw e))
   plain-way ExternalAuthenticate lc f = authenticates (s .pending) (byteAt command 2) (dataOf command lc) (f .names)
   plain-way VerifyPin lc f =
       decided-holds W refusals _ _ _ _ (verify-judged _ _ _ _) (λ t. judges _ (f .names) (verify-tries _ _ _ _ t) refl) (refusal (ended s) _)
@@ -173,45 +205,49 @@ module _ (c : Card) (s : Session) (command random : List ℕ) where
   plain-way ReadRecord lc f = let e = f .names in tells _ _ (rw e)
 
   completes : (mac : List ℕ) → named command ≡ IsSigned CompleteTransaction → W (completeTransactionOf (c .head) (chained mac s) (part command 5 16))
-  unfolding completeTransactionOf completeJudged decided isOne
+  unfolding completeTransactionOf decided isOne
   completes mac e = go (eqb w 0x9000) refl
     where
       t : Session
       t = chained mac s
 
       w : ℕ
-      w = completeJudged (c .head) t
+      w = completeStatus (c .head) t
 
       go : (b : Bool) → eqb w 0x9000 ≡ b → W (completeTransactionOf (c .head) t (part command 5 16))
       go true p = books mac e (eqb-true w 0x9000 p) refl
       go false p =
-          let j : Judged refusals w = complete-judged _ _ _ _ _ _ in
+          let j : Judged refusals w = complete-judged _ _ in
           refuses w (ended t) (rw p at j) (rw p)
 
   signed-way : (g : Signed) (lc : ℕ) → Accepted s command g lc
       → W (signedOf g (c .head) (chained (macOf s command lc) s) (header command lc) (dataOf command (lc - macSize)))
-  unfolding signedOf putKeyOf pinChangeOf storeDataOf initializeTransactionOf initializeJudged putDataOf putDataStatus ownWay signedLength
+  unfolding signedOf putKeyOf pinChangeOf storeDataOf initializeTransactionOf putDataOf putDataStatus personalized withParameters withPurse ownWay isReader signedLength
   signed-way PutKey lc f =
       let e = f .names in
-      decided-holds W refusals _ _ _ _ (put-key-judged _) (λ t. sets _ _ (rw e)) (refusal _ _)
+      decided-holds W refusals _ _ _ _ (put-key-judged _) (λ t. sets _ _ (rw e) (rw e) (keys-rest _ _ _)) (refusal _ _)
   signed-way PinChange lc f =
       let e = f .names in
       decided-holds W refusals _ _ _ _ (pin-judged _ _ _ _)
       (λ t. pick-holds W (eqb (length (dataOf command (lc - macSize))) 0) _ _
-      (λ u. answers StateOnly _ _ [] (rw e) (refilled c _) refl) (λ u. answers StateAndParameters _ _ [] (rw e) (new-pin c _) refl))
+      (λ u. answers Hot _ _ [] (rw e) (refilled c _ (rw e) _) refl) (λ u. answers HotAndCold _ _ [] (rw e) (new-pin c _ (rw e) _) refl))
       (refusal _ _)
   signed-way StoreData lc f =
       let e = f .names in
-      decided-holds W refusals _ _ _ _ (store-judged _ _ _ _ _) (λ t. sets _ _ (rw e)) (refusal _ _)
+      decided-holds W refusals _ _ _ _ (store-judged _ _ _ _ _)
+      (λ t.
+      let r = all-same (length (dataOf command (lc - macSize))) (c .head) _ (dataOf command (lc - macSize)) _ (same-itself (c .head)) .rest in
+      sets _ _ (rw e) (rw e) (record { fixed = r .fixed; aid = r .aid; balance = r .balance; state = r .state }))
+      (refusal _ _)
   signed-way InitializeTransaction lc f =
       let e = f .names in
-      decided-holds W refusals _ _ _ _ (initialize-judged _ _ _ _ _ _ _ _ _ _ _ _ _) (λ t. tells _ _ (rw e)) (refusal _ _)
+      decided-holds W refusals _ _ _ _ (initialize-judged _ _ _ _ _) (λ t. tells _ _ (rw e)) (refusal _ _)
   signed-way CompleteTransaction lc f =
       let k : lc ≡ 24 = eqb-true lc 24 (f .long) in
       rw k (completes (macOf s command 24) (f .names))
   signed-way PutData lc f =
       let e = f .names in
-      decided-holds W refusals _ _ _ _ (data-judged _ _ _ _ _) (λ t. sets _ _ (rw e)) (refusal _ _)
+      decided-holds W refusals _ _ _ _ (data-judged _ _ _ _ _) (λ t. sets _ _ (rw e) (rw e) (datum-same _ _ _ _ .rest)) (refusal _ _)
 
   -- every command takes one of them
   pub way : Way c s command (respond c s command random)

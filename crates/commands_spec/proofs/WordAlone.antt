@@ -12,7 +12,8 @@ use Rattle.octets.specs.Buffers.{content}
 use Rattle.octets.proofs.Holding.{content-holding}
 use Rattle.octets.proofs.Rules.{pick-holds}
 use Rattle.card.specs.declared.head.Head.{Head}
-use Rattle.card.specs.Card.{Card, void}
+use Rattle.card.specs.Log.{void}
+use Rattle.card.specs.Card.{Card}
 use Rattle.session.specs.declared.Pending.{Pending}
 use Rattle.session.specs.declared.Pending.the-variants.{Nothing, Update, Debiting, Crediting}
 use Rattle.session.specs.declared.Session.{Session}
@@ -28,10 +29,10 @@ use Rattle.apdu.specs.declared.instructions.Instruction.the-variants.{IsPlain, 
 use Rattle.apdu.specs.Parsing.{dataOf}
 use Rattle.apdu.specs.Lengths.{macSize}
 use Rattle.apdu.proofs.Shapes.{header}
-use Rattle.commands_spec.specs.declared.outcome.Effect.{Effect}
+use Rattle.commands_spec.specs.declared.outcome.Commits.{Commits}
 use Rattle.commands_spec.specs.declared.outcome.Outcome.{Outcome}
 use Rattle.commands_spec.specs.Outcomes.{refused, done}
-use Rattle.commands_spec.specs.Updates.{keysOf}
+use Rattle.commands_spec.specs.KeySets.{keySetOf}
 use Rattle.commands_spec.specs.Select.{selectOf}
 use Rattle.commands_spec.specs.InitializeUpdate.{initializeUpdateOf}
 use Rattle.commands_spec.specs.ExternalAuthenticate.{authenticated, externalAuthenticateOf}
@@ -72,7 +73,7 @@ refused-alone : (h : Head) (s : Session) (w : ℕ) → Alone (refused h s w)
 unfolding refused
 refused-alone h s w = content-holding (word w)
 
-done-alone : (e : Effect) (h : Head) (s : Session) → Alone (done e h s [])
+done-alone : (e : Commits) (h : Head) (s : Session) → Alone (done e h s [])
 unfolding done
 done-alone e h s = content-holding (word 0x9000)
 
@@ -87,7 +88,7 @@ module _ (c : Card) (s : Session) (command random : List ℕ) where
   refuses : (i : Instruction) (t : Session) (w : ℕ) → Q i (refused H t w)
   refuses i t w n = refused-alone H t w
 
-  tells : (i : Instruction) (e : Effect) (h : Head) (t : Session) (answer : List ℕ) → namesAnswer i ≡ true → Q i (done e h t answer)
+  tells : (i : Instruction) (e : Commits) (h : Head) (t : Session) (answer : List ℕ) → namesAnswer i ≡ true → Q i (done e h t answer)
   unfolding done
   tells i e h t answer a n = absurd (n a refl)
 
@@ -109,9 +110,9 @@ module _ (c : Card) (s : Session) (command random : List ℕ) where
   plain-alone : (p : Plain) (lc : ℕ) → Q (IsPlain p) (plainOf p H (getD (c .log) (asked command) void) s (header command lc) command (dataOf command lc) random)
   unfolding plainOf selectOf initializeUpdateOf verifyPinOf getDataOf readRecordOf namesAnswer
   plain-alone Select lc =
-      pick-holds (Q (IsPlain Select)) (same (dataOf command lc) (take (H .fixed .aidlen) (H .fixed .aid))) _ _ (λ t. tells (IsPlain Select) _ _ _ _ refl) (λ t. refuses (IsPlain Select) _ 0x6A82)
+      pick-holds (Q (IsPlain Select)) (same (dataOf command lc) (take (H .purse .aid .size) (H .purse .aid .bytes))) _ _ (λ t. tells (IsPlain Select) _ _ _ _ refl) (λ t. refuses (IsPlain Select) _ 0x6A82)
   plain-alone InitializeUpdate lc =
-      pick-holds (Q (IsPlain InitializeUpdate)) (not (keysOf (setOf (byteAt command 2)) H .defined)) _ _ (λ t. refuses (IsPlain InitializeUpdate) _ 0x6A88) (λ t. tells (IsPlain InitializeUpdate) _ _ _ _ refl)
+      pick-holds (Q (IsPlain InitializeUpdate)) (not (keySetOf (setOf (byteAt command 2)) H .defined)) _ _ (λ t. refuses (IsPlain InitializeUpdate) _ 0x6A88) (λ t. tells (IsPlain InitializeUpdate) _ _ _ _ refl)
   plain-alone ExternalAuthenticate lc = authenticates (s .pending) (byteAt command 2) (dataOf command lc)
   plain-alone VerifyPin lc = decided-either (Q (IsPlain VerifyPin)) _ _ _ _ (λ t. judges _) (refuses (IsPlain VerifyPin) _ _)
   plain-alone GetData lc = tells (IsPlain GetData) _ _ _ _ refl

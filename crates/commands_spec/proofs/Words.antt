@@ -46,7 +46,7 @@ way-worded c s command o (refuses w t j e) = rw e (worded _ [] (or-right (eqb w 
 way-worded c s command o (mismatch t i e) = rw e (worded _ [] refl refl)
 way-worded c s command o (judges true i k e) = rw e (worded _ [] refl refl)
 way-worded c s command o (judges false i k e) = rw e (worded _ [] refl refl)
-way-worded c s command o (answers effect next t answer n k e) = rw e (worded _ answer refl refl)
+way-worded c s command o (answers commits next t answer n k e) = rw e (worded _ answer refl refl)
 way-worded c s command o (books mac i j e) = rw (e, j) (worded _ (completedAnswer (c .head) (chained mac s)) refl refl)
 
 -- every outcome is so

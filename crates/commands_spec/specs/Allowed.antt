@@ -4,11 +4,12 @@ use mathlib.Core.Bool.{Bool, true}
 use mathlib.Core.Path.{_≡_}
 use mathlib.Core.List.{List}
 use Prim.Native.Nat.{ℕ, _+_, _-_, _≤_, _<_}
-use lib.ListN.{getD, take, drop}
+use lib.ListN.{length, getD, take, drop}
 use Rattle.octets.specs.Words.{wordAt}
 use Rattle.card.specs.declared.head.KeySet.{KeySet}
 use Rattle.card.specs.declared.head.Head.{Head}
-use Rattle.card.specs.Card.{Card, void}
+use Rattle.card.specs.Log.{void, recordBytes}
+use Rattle.card.specs.Card.{Card}
 use Rattle.session.specs.declared.Set.{Set}
 use Rattle.session.specs.declared.Set.the-variants.{Debit, Credit, Admin}
 use Rattle.session.specs.declared.Level.{Level}
@@ -18,7 +19,7 @@ use Rattle.session.specs.declared.Level.the-variants.{Mac, Rmac}
 pub data Numbered (h : Head) (k : KeySet) : ℕ → Set → Type 0 where
   first : k ≡ h .purse .debit → Numbered h k 0x01 Debit
   second : k ≡ h .purse .credit → Numbered h k 0x02 Credit
-  third : k ≡ h .shared .admin → Numbered h k 0x03 Admin
+  third : k ≡ record { defined = true; keys = h .shared .admin } → Numbered h k 0x03 Admin
 
 -- "P1 01 (C-MAC) or 11 (with R-MAC)"
 pub data LevelOf (set : Set) : ℕ → Level → Type 0 where
@@ -43,8 +44,8 @@ pub record Allows (h : Head) (p1 currency amount : ℕ) : Type 0 where
   pub same : currency ≡ h .purse .parameters .currency
   pub above : 0 < amount
   pub signed : amount < 0x8000
-  pub debits : p1 ≡ 0x00 → (amount ≤ h .purse .parameters .maxdebit) × (amount ≤ h .state .balance)
-  pub credits : (p1 ≡ 0x00 → ⊥) → h .state .balance + amount ≤ h .purse .parameters .maxbalance
+  pub debits : p1 ≡ 0x00 → (amount ≤ h .purse .parameters .maxdebit) × (amount ≤ h .purse .balance)
+  pub credits : (p1 ≡ 0x00 → ⊥) → h .purse .balance + amount ≤ h .purse .parameters .maxbalance
 
 -- what it does to the balance: a debit takes the amount, a credit adds it
 pub record MovedBy (p1 amount before after : ℕ) : Type 0 where
@@ -63,10 +64,11 @@ pub record Logged (p1 n own amount after : ℕ) (sent r : List ℕ) : Type 0 whe
 
 -- what it leaves of a card: balance and number moved, and the record in front of the log, whose oldest gives way
 pub record Completed (c : Card) (p1 amount : ℕ) (context : List ℕ) (d : Card) : Type 0 where
-  pub balance : MovedBy p1 amount (c .head .state .balance) (d .head .state .balance)
+  pub balance : MovedBy p1 amount (c .head .purse .balance) (d .head .purse .balance)
   pub number : d .head .state .number ≡ c .head .state .number + 1
-  pub logged : Logged p1 (c .head .state .number + 1) (c .head .purse .parameters .currency) amount (d .head .state .balance) context (getD (d .log) 0 void)
-  pub older : drop 1 (d .log) ≡ take (c .head .fixed .logsize - 1) (c .log)
+  pub logged : Logged p1 (c .head .state .number + 1) (c .head .purse .parameters .currency) amount (d .head .purse .balance) context
+      (recordBytes (getD (d .log) 0 void))
+  pub older : drop 1 (d .log) ≡ take (length (c .log) - 1) (c .log)
 
 -- a card with that many tries left, and all else as it was
 unfoldable pub triesLeft : ℕ → Card → Card
@@ -77,7 +79,7 @@ triesLeft n c =
         shared = c .head .shared;
         purse = c .head .purse;
         pin = c .head .pin;
-        state = record { number = c .head .state .number; balance = c .head .state .balance; tries = n };
+        state = record { number = c .head .state .number; tries = n };
       };
       log = c .log;
     }

@@ -8,8 +8,8 @@ use lib.Dec.{leb}
 use Rattle.octets.specs.Choice.{refuse}
 use Rattle.octets.specs.Words.{word}
 use Rattle.octets.specs.Buffers.{holding}
-use Rattle.card.specs.declared.head.State.{State}
 use Rattle.card.specs.declared.head.Head.{Head}
+use Rattle.card.specs.declared.log.Record.{Record}
 use Rattle.session.specs.declared.Pending.{Pending}
 use Rattle.session.specs.declared.Pending.the-variants.{Nothing, Update, Debiting, Crediting}
 use Rattle.session.specs.declared.Session.{Session}
@@ -17,10 +17,10 @@ use Rattle.session.specs.Transitions.{ended, answered}
 use Rattle.session.specs.Access.{hasRmac}
 use Rattle.session.specs.Codes.{amountOf}
 use Rattle.channel.specs.Channel.{rmacOf}
-use Rattle.commands_spec.specs.declared.outcome.Effect.the-variants.{StateAndEntry}
+use Rattle.commands_spec.specs.declared.outcome.Commits.the-variants.{HotAndRecord}
 use Rattle.commands_spec.specs.declared.outcome.Outcome.{Outcome}
 use Rattle.commands_spec.specs.Outcomes.{decided}
-use Rattle.commands_spec.specs.Updates.{withState}
+use Rattle.card.specs.Updates.{withState, withBalance}
 use Rattle.commands_spec.specs.Status.{operational}
 use Rattle.commands_spec.specs.Transaction.{newBalance, keepsLimits, logAmount}
 
@@ -39,30 +39,31 @@ isDebit (Debiting amount) = true
 isDebit (Crediting amount) = false
 
 -- steps 7 to 11
-unfoldable pub completeStatus : Bool → Bool → Bool → Bool → ℕ → ℕ → ℕ
-completeStatus personalized noted rmac keeps number maxnumber =
-    refuse (not personalized) 0x6985
-    (refuse (not noted) 0x6985
-    (refuse (not rmac) 0x6982
-    (refuse (leb maxnumber number) 0x6985
-    (refuse (not keeps) 0x6985
+unfoldable pub completeStatus : Head → Session → ℕ
+completeStatus h s =
+    refuse (not (h .purse .parameters .personalized)) 0x6985
+    (refuse (not (isNoted (s .pending))) 0x6985
+    (refuse (not (hasRmac (s .channel .level))) 0x6982
+    (refuse (leb (h .shared .maxnumber) (h .state .number)) 0x6985
+    (refuse (not (keepsLimits (isDebit (s .pending)) (amountOf (s .pending)) (h .purse .balance) (h .purse .parameters .maxbalance))) 0x6985
     0x9000))))
 
--- the status word on a card and in a session
-unfoldable pub completeJudged : Head → Session → ℕ
-completeJudged h s =
-    completeStatus (h .purse .parameters .personalized) (isNoted (s .pending)) (hasRmac (s .channel .level))
-    (keepsLimits (isDebit (s .pending)) (amountOf (s .pending)) (h .state .balance) (h .purse .parameters .maxbalance))
-    (h .state .number) (h .shared .maxnumber)
+-- number and balance after it
+unfoldable pub booked : Bool → ℕ → Head → Head
+booked debit amount h =
+    withState (record { number = h .state .number + 1; tries = h .state .tries })
+    (withBalance (newBalance debit amount (h .purse .balance)) h)
 
--- balance and number after it
-unfoldable pub booked : Bool → ℕ → State → State
-booked debit amount s = record { number = s .number + 1; balance = newBalance debit amount (s .balance); tries = s .tries }
-
--- "transaction number, currency, amount (signed, a debit negative), new balance, 16 context bytes"
-unfoldable pub logRecord : Bool → ℕ → State → ℕ → List ℕ → List ℕ
-logRecord debit amount after currency context =
-    word (after .number) ++ word currency ++ word (logAmount debit amount) ++ word (after .balance) ++ context
+-- "transaction number, currency, amount (signed, a debit negative), new balance, 16 context bytes", of the head afterwards
+unfoldable pub logRecord : Bool → ℕ → Head → List ℕ → Record
+logRecord debit amount h context =
+    record {
+      number = h .state .number;
+      currency = h .purse .parameters .currency;
+      amount = logAmount debit amount;
+      balance = h .purse .balance;
+      context = context;
+    }
 
 -- "Answer, all new: identifier, number, operational status"
 unfoldable pub completeAnswer : Head → List ℕ
@@ -73,15 +74,15 @@ unfoldable pub completeTransactionOf : Head → Session → List ℕ → Outcome
 completeTransactionOf h s context =
     let debit = isDebit (s .pending) in
     let amount = amountOf (s .pending) in
-    let next = withState (booked debit amount (h .state)) h in
+    let next = booked debit amount h in
     let answer = completeAnswer next in
     let mac = rmacOf (s .channel .mac) (s .channel .rmac) (s .channel .cmac) answer in
-    decided (completeJudged h s) h (ended s)
+    decided (completeStatus h s) h (ended s)
     (record {
       status = 0x9000;
-      effect = StateAndEntry;
+      commits = HotAndRecord;
       head = next;
-      entry = logRecord debit amount (next .state) (h .purse .parameters .currency) context;
+      logged = logRecord debit amount next context;
       reply = holding (answer ++ mac ++ word 0x9000);
       session = answered Nothing mac s;
     })

@@ -8,12 +8,12 @@ use lib.ListN.{length, take}
 use Rattle.octets.specs.Choice.{pick}
 use Rattle.octets.specs.Bytes.{zeros, field}
 use Rattle.octets.specs.Words.{word, wordAt}
+use Rattle.card.specs.declared.head.Aid.{Aid}
 use Rattle.card.specs.declared.head.Bank.{Bank}
-use Rattle.card.specs.declared.head.Agent.{Agent}
 use Rattle.card.specs.declared.head.Parameters.{Parameters}
 use Rattle.card.specs.declared.head.Head.{Head}
 use Rattle.channel.specs.Channel.{bankReceived}
-use Rattle.commands_spec.specs.Updates.{withParameters, withMaxnumber}
+use Rattle.card.specs.Updates.{withParameters, withMaxnumber}
 use Rattle.commands_spec.specs.Status.{administrative}
 
 -- "maximum balance, 0 to 32,767", "maximum debit, 0 to 32,767"
@@ -42,11 +42,13 @@ valueOk tag v =
 
 -- "Length 0 of 06 or 07 means undefined"; bank information travels enciphered
 unfoldable pub bankOf : List ℕ → List ℕ → Bank
-bankOf dek v = pick (eqb (length v) 0) (record { defined = false; value = zeros 16 }) (record { defined = true; value = bankReceived dek (field v 0 16) })
+bankOf dek v =
+    pick (eqb (length v) 0)
+    (record { defined = false; value = zeros 16 }) (record { defined = true; value = bankReceived dek (field v 0 16) })
 
 -- an agent's AID, zeros after it
-unfoldable pub agentOf : List ℕ → Agent
-agentOf v = record { length = min (length v) 16; value = field v 0 16 }
+unfoldable pub agentOf : List ℕ → Aid
+agentOf v = record { size = min (length v) 16; bytes = field v 0 16 }
 
 -- the parameters with the value of a tag of 01 to 04, 06 or 07
 unfoldable pub parameterSet : List ℕ → ℕ → List ℕ → Parameters → Parameters
@@ -76,9 +78,9 @@ datum h verified tag =
     (pick (eqb tag 0x04) (word (p .maxdebit))
     (pick (eqb tag 0x05) (word (h .shared .maxnumber))
     (pick (eqb tag 0x06) (pick (p .bank .defined) (p .bank .value) [])
-    (pick (eqb tag 0x07) (take (p .agent .length) (p .agent .value))
+    (pick (eqb tag 0x07) (take (p .agent .size) (p .agent .bytes))
     (pick (eqb tag 0x14) (word (h .state .number))
-    (pick (eqb tag 0x15) (word (h .state .balance))
+    (pick (eqb tag 0x15) (word (h .purse .balance))
     (pick (eqb tag 0x16) (h .state .tries ∷ [])
     (pick (eqb tag 0x17) (administrative h verified ∷ [])
     []))))))))))

@@ -15,7 +15,7 @@ use Rattle.session.specs.declared.Pending.the-variants.{Nothing, Update, Debiti
 use Rattle.session.specs.declared.Session.{Session}
 use Rattle.session.specs.Transitions.{ended, closed, opened}
 use Rattle.channel.specs.Channel.{cmacOf}
-use Rattle.commands_spec.specs.declared.outcome.Effect.the-variants.{Unchanged}
+use Rattle.commands_spec.specs.declared.outcome.Commits.the-variants.{Unchanged}
 use Rattle.commands_spec.specs.declared.outcome.Outcome.{Outcome}
 use Rattle.commands_spec.specs.Outcomes.{refused, done}
 
@@ -29,7 +29,8 @@ authenticated set h s p1 command body =
     let mac = cmacOf (s .offer .mac) (zeros 8) command 13 in
     pick (not (same (part body 0 8) (s .offer .expected))) (refused h (closed s) 0x6300)
     (pick (not (same (part body 8 8) mac)) (refused h (closed s) 0x6982)
-    (done Unchanged h (opened (record { level = levelFor p1 set; enc = s .offer .enc; mac = s .offer .mac; cmac = mac; rmac = zeros 8 }) s) []))
+    (done Unchanged h
+    (opened (record { level = levelFor p1 set; enc = s .offer .enc; mac = s .offer .mac; cmac = mac; rmac = zeros 8 }) s) []))
 
 -- the command past step 5, by what is pending
 unfoldable pub externalAuthenticateOf : Pending → Head → Session → ℕ → List ℕ → List ℕ → Outcome

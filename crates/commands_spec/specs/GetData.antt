@@ -5,7 +5,7 @@ use lib.ListN.{length}
 use Rattle.card.specs.declared.head.Head.{Head}
 use Rattle.session.specs.declared.Session.{Session}
 use Rattle.session.specs.Transitions.{ended}
-use Rattle.commands_spec.specs.declared.outcome.Effect.the-variants.{Unchanged}
+use Rattle.commands_spec.specs.declared.outcome.Commits.the-variants.{Unchanged}
 use Rattle.commands_spec.specs.declared.outcome.Outcome.{Outcome}
 use Rattle.commands_spec.specs.Outcomes.{done}
 use Rattle.commands_spec.specs.Data.{datum}

@@ -13,10 +13,10 @@ use Rattle.session.specs.declared.Session.{Session}
 use Rattle.session.specs.Transitions.{ended, answered}
 use Rattle.session.specs.Access.{access, hasRmac, DEBIT, CREDIT}
 use Rattle.channel.specs.Channel.{rmacOf, bankSent}
-use Rattle.commands_spec.specs.declared.outcome.Effect.the-variants.{Unchanged}
+use Rattle.commands_spec.specs.declared.outcome.Commits.the-variants.{Unchanged}
 use Rattle.commands_spec.specs.declared.outcome.Outcome.{Outcome}
 use Rattle.commands_spec.specs.Outcomes.{done, decided}
-use Rattle.commands_spec.specs.Updates.{dekOf}
+use Rattle.commands_spec.specs.KeySets.{dekOf}
 use Rattle.commands_spec.specs.Transaction.{notAboveZero}
 
 -- "P1 02 without bank information or PIN: 6A81"
@@ -26,32 +26,27 @@ lacks p1 bank pin = eqb p1 0x02 && not (bank && pin)
 -- whether access and PIN flag are enough: "Access DEBIT, CREDIT" of a debit and a cash credit; document 02, request 1: "P1 02 needs the PIN
 -- flag set, and access CREDIT or higher"
 unfoldable pub entitled : ℕ → ℕ → Bool → Bool
-entitled p1 level flag =
-    pick (eqb p1 0x00) (leb DEBIT level)
-    (pick (eqb p1 0x01) (leb CREDIT level)
-    (flag && leb CREDIT level))
+entitled p1 held flag =
+    pick (eqb p1 0x00) (leb DEBIT held)
+    (pick (eqb p1 0x01) (leb CREDIT held)
+    (flag && leb CREDIT held))
 
 -- the first rule that refuses, in 01's order: 7, 8, 9, 10, 11
-unfoldable pub initializeStatus : Bool → Bool → Bool → Bool → ℕ → ℕ → ℕ → ℕ → ℕ → Bool → ℕ → ℕ → ℕ → ℕ
-initializeStatus personalized lacking may rmac number maxnumber currency ours amount debit maxdebit balance maxbalance =
-    refuse (not personalized) 0x6985
-    (refuse lacking 0x6A81
-    (refuse (not may) 0x6982
-    (refuse (not rmac) 0x6982
-    (refuse (leb maxnumber number) 0x9410
-    (refuse (not (eqb currency ours)) 0x9411
-    (refuse (notAboveZero amount) 0x9412
-    (refuse (debit && (ltb maxdebit amount || ltb balance amount)) 0x9413
-    (refuse (not debit && ltb maxbalance (balance + amount)) 0x9414
-    0x9000))))))))
-
--- the status word on a card and in a session
-unfoldable pub initializeJudged : Head → Session → ℕ → ℕ → ℕ → ℕ
-initializeJudged h s p1 currency amount =
+unfoldable pub initializeStatus : Head → Session → ℕ → ℕ → ℕ → ℕ
+initializeStatus h s p1 currency amount =
     let p = h .purse .parameters in
-    initializeStatus (p .personalized) (lacks p1 (p .bank .defined) (h .pin .defined)) (entitled p1 (access (s .channel .level)) (s .verified))
-    (hasRmac (s .channel .level)) (h .state .number) (h .shared .maxnumber) currency (p .currency) amount (eqb p1 0x00) (p .maxdebit)
-    (h .state .balance) (p .maxbalance)
+    let balance = h .purse .balance in
+    let debit = eqb p1 0x00 in
+    refuse (not (p .personalized)) 0x6985
+    (refuse (lacks p1 (p .bank .defined) (h .pin .defined)) 0x6A81
+    (refuse (not (entitled p1 (access (s .channel .level)) (s .verified))) 0x6982
+    (refuse (not (hasRmac (s .channel .level))) 0x6982
+    (refuse (leb (h .shared .maxnumber) (h .state .number)) 0x9410
+    (refuse (not (eqb currency (p .currency))) 0x9411
+    (refuse (notAboveZero amount) 0x9412
+    (refuse (debit && (ltb (p .maxdebit) amount || ltb balance amount)) 0x9413
+    (refuse (not debit && ltb (p .maxbalance) (balance + amount)) 0x9414
+    0x9000))))))))
 
 -- "Answer: identifier, bank information if P1 02"
 unfoldable pub initializeAnswer : Head → Session → ℕ → List ℕ
@@ -70,5 +65,5 @@ initializeTransactionOf h s p1 body =
     let amount = wordAt body 2 in
     let answer = initializeAnswer h s p1 in
     let mac = rmacOf (s .channel .mac) (s .channel .rmac) (s .channel .cmac) answer in
-    decided (initializeJudged h s p1 currency amount) h (ended s)
+    decided (initializeStatus h s p1 currency amount) h (ended s)
     (done Unchanged h (answered (noted p1 amount) mac s) (answer ++ mac))

@@ -1,6 +1,6 @@
 pub mod Outcomes
 pub mod Words
-pub mod Updates
+pub mod KeySets
 pub mod Status
 pub mod Select
 pub mod InitializeUpdate

@@ -99,10 +99,10 @@ pub record IsValue (dek : List ℕ) (tag : ℕ) (sent : List ℕ) : Type 0 where
 abbrev pub putDataRules : Head → Set → List ℕ → ℕ → List ℕ → ℕ → Type 0
 putDataRules h set dek tag sent =
     Rule (h .purse .parameters .personalized ≡ false) 0x6985
-    (Rule ((tag ≤ 0x07) × (tag ≡ 0x01 → ⊥) × (tag ≡ 0x02 → h .state .balance ≡ 0) → ⊥) 0x6A81
+    (Rule ((tag ≤ 0x07) × (tag ≡ 0x01 → ⊥) × (tag ≡ 0x02 → h .purse .balance ≡ 0) → ⊥) 0x6A81
     (Rule (NotAdmin set) 0x6982
     (Rule (IsValue dek tag sent → ⊥) 0x6A80
-    (Rule ((tag ≡ 0x03 → h .state .balance ≤ wordAt sent 0) × (tag ≡ 0x05 → h .state .number ≤ wordAt sent 0) → ⊥) 0x6A80
+    (Rule ((tag ≡ 0x03 → h .purse .balance ≤ wordAt sent 0) × (tag ≡ 0x05 → h .state .number ≤ wordAt sent 0) → ⊥) 0x6A80
     Done))))
 
 -- ---- PIN and transactions
@@ -134,14 +134,14 @@ initializeRules h set level flag p1 currency amount =
     (Rule (h .shared .maxnumber ≤ h .state .number) 0x9410
     (Rule (currency ≡ h .purse .parameters .currency → ⊥) 0x9411
     (Rule ((0 < amount) × (amount < 0x8000) → ⊥) 0x9412
-    (Rule ((p1 ≡ 0x00) × ((amount ≤ h .purse .parameters .maxdebit) × (amount ≤ h .state .balance) → ⊥)) 0x9413
-    (Rule ((p1 ≡ 0x00 → ⊥) × (h .purse .parameters .maxbalance < h .state .balance + amount)) 0x9414
+    (Rule ((p1 ≡ 0x00) × ((amount ≤ h .purse .parameters .maxdebit) × (amount ≤ h .purse .balance) → ⊥)) 0x9413
+    (Rule ((p1 ≡ 0x00 → ⊥) × (h .purse .parameters .maxbalance < h .purse .balance + amount)) 0x9414
     Done))))))))
 
 -- what is noted would pass a balance limit
 pub data PassesLimit (h : Head) : Pending → Type 0 where
-  below-zero : (amount : ℕ) → h .state .balance < amount → PassesLimit h (Debiting amount)
-  past-maximum : (amount : ℕ) → h .purse .parameters .maxbalance < h .state .balance + amount → PassesLimit h (Crediting amount)
+  below-zero : (amount : ℕ) → h .purse .balance < amount → PassesLimit h (Debiting amount)
+  past-maximum : (amount : ℕ) → h .purse .parameters .maxbalance < h .purse .balance + amount → PassesLimit h (Crediting amount)
 
 -- an amount is noted
 pub data Noted : Pending → Type 0 where

@@ -5,41 +5,42 @@ use lib.Dec.{eqb}
 use Rattle.octets.specs.Choice.{pick}
 use Rattle.octets.specs.Words.{word}
 use Rattle.octets.specs.Buffers.{holding}
+use Rattle.card.specs.declared.change.Change.{Change}
 use Rattle.card.specs.declared.head.State.{State}
 use Rattle.card.specs.declared.head.Head.{Head}
-use Rattle.card.specs.Card.{Card, void}
-use Rattle.card.specs.Changes.{Change, state, entry, parameters, both, changed}
+use Rattle.card.specs.declared.log.Record.{Record}
+use Rattle.card.specs.Log.{void}
+use Rattle.card.specs.Updates.{withState}
+use Rattle.card.specs.Changes.{hotChange, loggedChange, coldChange}
 use Rattle.session.specs.declared.Session.{Session}
-use Rattle.commands_spec.specs.declared.outcome.Effect.{Effect}
-use Rattle.commands_spec.specs.declared.outcome.Effect.the-variants.{Unchanged, StateOnly, StateAndEntry, ParametersOnly, StateAndParameters, PinTry}
+use Rattle.commands_spec.specs.declared.outcome.Commits.{Commits}
+use Rattle.commands_spec.specs.declared.outcome.Commits.the-variants.{Unchanged, Hot, HotAndRecord, HotAndCold, HotTwice}
 use Rattle.commands_spec.specs.declared.outcome.Outcome.{Outcome}
 
 -- a refusal
 unfoldable pub refused : Head → Session → ℕ → Outcome
-refused h s w = record { status = w; effect = Unchanged; head = h; entry = void; reply = holding (word w); session = s }
+refused h s w = record { status = w; commits = Unchanged; head = h; logged = void; reply = holding (word w); session = s }
 
 -- 01: "A command whose line names no answer gives its status word alone"
-unfoldable pub done : Effect → Head → Session → List ℕ → Outcome
-done effect h s answer =
-    record { status = 0x9000; effect = effect; head = h; entry = void; reply = holding (answer ++ word 0x9000); session = s }
+unfoldable pub done : Commits → Head → Session → List ℕ → Outcome
+done commits h s answer =
+    record { status = 0x9000; commits = commits; head = h; logged = void; reply = holding (answer ++ word 0x9000); session = s }
 
 -- one try fewer, which VERIFY PIN costs before it judges the PIN
 unfoldable pub tried : State → State
-tried s = record { number = s .number; balance = s .balance; tries = s .tries - 1 }
+tried s = record { number = s .number; tries = s .tries - 1 }
 
--- the changes that an effect makes, in their order: the card's state before, its head afterwards, the new record
-unfoldable pub changesOf : Effect → State → Head → List ℕ → List Change
-changesOf Unchanged before after r = []
-changesOf StateOnly before after r = state (after .state) ∷ []
-changesOf StateAndEntry before after r = entry (after .state) r ∷ []
-changesOf ParametersOnly before after r = parameters after ∷ []
-changesOf StateAndParameters before after r = both after ∷ []
-changesOf (PinTry right) before after r = state (tried before) ∷ pick right (state (after .state) ∷ []) []
+-- commits in their order, as changes: the head afterwards and the new record
+unfoldable pub changesOf : Commits → Head → Record → List Change
+changesOf Unchanged h r = []
+changesOf Hot h r = hotChange h ∷ []
+changesOf HotAndRecord h r = loggedChange h r ∷ []
+changesOf HotAndCold h r = coldChange h ∷ []
+changesOf (HotTwice first) h r = hotChange (withState first h) ∷ hotChange h ∷ []
 
--- a card after changes in a row
-unfoldable pub after : List Change → Card → Card
-after [] c = c
-after (x ∷ xs) c = after xs (changed x c)
+-- those of an outcome
+unfoldable pub commitsOf : Outcome → List Change
+commitsOf o = changesOf (o .commits) (o .head) (o .logged)
 
 -- what a command that passed its rules gives, or the refusal
 unfoldable pub decided : ℕ → Head → Session → Outcome → Outcome

@@ -12,16 +12,17 @@ use Rattle.session.specs.declared.Session.{Session}
 use Rattle.session.specs.Transitions.{ended, flagged}
 use Rattle.session.specs.Access.{access, ADMIN}
 use Rattle.channel.specs.Channel.{received}
-use Rattle.commands_spec.specs.declared.outcome.Effect.the-variants.{StateOnly, StateAndParameters}
+use Rattle.commands_spec.specs.declared.outcome.Commits.the-variants.{Hot, HotAndCold}
 use Rattle.commands_spec.specs.declared.outcome.Outcome.{Outcome}
 use Rattle.commands_spec.specs.Outcomes.{done, decided}
-use Rattle.commands_spec.specs.Updates.{withTries, withPin, dekOf}
+use Rattle.card.specs.Updates.{withTries, withPin}
+use Rattle.commands_spec.specs.KeySets.{dekOf}
 
 -- steps 8, 9 and 11; `good`: the block is well formed
 unfoldable pub pinStatus : Bool → Bool → ℕ → Bool → ℕ
-pinStatus unblock defined level good =
+pinStatus unblock defined held good =
     refuse (unblock && not defined) 0x6A81
-    (refuse (ltb level ADMIN) 0x6982
+    (refuse (ltb held ADMIN) 0x6982
     (refuse (not unblock && not good) 0x6A80
     0x9000))
 
@@ -32,5 +33,5 @@ pinChangeOf h s body =
     let block = received (dekOf (s .channel .level) h) body in
     decided (pinStatus unblock (h .pin .defined) (access (s .channel .level)) (wellFormed block)) h (ended s)
     (pick unblock
-    (done StateOnly (withTries (h .fixed .maxtries) h) (flagged false s) [])
-    (done StateAndParameters (withPin block h) (flagged false s) []))
+    (done Hot (withTries (h .fixed .maxtries) h) (flagged false s) [])
+    (done HotAndCold (withPin block h) (flagged false s) []))

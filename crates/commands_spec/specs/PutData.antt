@@ -10,10 +10,10 @@ use Rattle.card.specs.declared.head.Head.{Head}
 use Rattle.session.specs.declared.Session.{Session}
 use Rattle.session.specs.Transitions.{ended}
 use Rattle.session.specs.Access.{access, ADMIN}
-use Rattle.commands_spec.specs.declared.outcome.Effect.the-variants.{ParametersOnly}
+use Rattle.commands_spec.specs.declared.outcome.Commits.the-variants.{HotAndCold}
 use Rattle.commands_spec.specs.declared.outcome.Outcome.{Outcome}
 use Rattle.commands_spec.specs.Outcomes.{done, decided}
-use Rattle.commands_spec.specs.Updates.{dekOf}
+use Rattle.commands_spec.specs.KeySets.{dekOf}
 use Rattle.commands_spec.specs.Data.{valueOk, datumSet}
 
 -- what PUT DATA doesn't set: 14 to 17, 01, and 02 while there is a balance
@@ -26,24 +26,24 @@ undercuts tag value balance number = pick (eqb tag 0x03) (ltb value balance) (pi
 
 -- steps 7, 8, 9 and 11; `good`: length and range of the value
 unfoldable pub dataStatus : Bool → Bool → ℕ → Bool → Bool → ℕ
-dataStatus personalized lockedTag level good undercut =
+dataStatus personalized lockedTag held good undercut =
     refuse (not personalized) 0x6985
     (refuse lockedTag 0x6A81
-    (refuse (ltb level ADMIN) 0x6982
+    (refuse (ltb held ADMIN) 0x6982
     (refuse (not good) 0x6A80
     (refuse undercut 0x6A80
     0x9000))))
 
 -- over a tag and a value
 unfoldable pub putDataStatus : Bool → ℕ → ℕ → Bool → ℕ → ℕ → ℕ → ℕ
-putDataStatus personalized tag level good value balance number =
-    dataStatus personalized (locked tag balance) level good (undercuts tag value balance number)
+putDataStatus personalized tag held good value balance number =
+    dataStatus personalized (locked tag balance) held good (undercuts tag value balance number)
 
 -- the command past step 6
 unfoldable pub putDataOf : Head → Session → ℕ → List ℕ → Outcome
 putDataOf h s tag v =
     decided
-    (putDataStatus (h .purse .parameters .personalized) tag (access (s .channel .level)) (valueOk tag v) (wordAt v 0) (h .state .balance)
+    (putDataStatus (h .purse .parameters .personalized) tag (access (s .channel .level)) (valueOk tag v) (wordAt v 0) (h .purse .balance)
     (h .state .number))
     h (ended s)
-    (done ParametersOnly (datumSet (dekOf (s .channel .level) h) tag v h) (ended s) [])
+    (done HotAndCold (datumSet (dekOf (s .channel .level) h) tag v h) (ended s) [])

@@ -8,7 +8,10 @@ use lib.ListN.{getD}
 use Rattle.octets.specs.Choice.{pick}
 use Rattle.octets.specs.Bytes.{byteAt, part, same}
 use Rattle.card.specs.declared.head.Head.{Head}
-use Rattle.card.specs.Card.{Card, void}
+use Rattle.card.specs.declared.log.Record.{Record}
+use Rattle.card.specs.Log.{void}
+use Rattle.card.specs.Card.{Card}
+use Rattle.card.specs.Changes.{after}
 use Rattle.session.specs.declared.Session.{Session}
 use Rattle.session.specs.Transitions.{ended, closed, chained}
 use Rattle.session.specs.Access.{isOpen}
@@ -27,7 +30,7 @@ use Rattle.apdu.specs.Lengths.{macSize}
 use Rattle.apdu.specs.Early.{plainStatus, signedStatus}
 use Rattle.channel.specs.Channel.{cmacOf}
 use Rattle.commands_spec.specs.declared.outcome.Outcome.{Outcome}
-use Rattle.commands_spec.specs.Outcomes.{refused, decided, changesOf, after}
+use Rattle.commands_spec.specs.Outcomes.{refused, decided, commitsOf}
 use Rattle.commands_spec.specs.Select.{selectOf}
 use Rattle.commands_spec.specs.InitializeUpdate.{initializeUpdateOf}
 use Rattle.commands_spec.specs.ExternalAuthenticate.{externalAuthenticateOf}
@@ -42,7 +45,7 @@ use Rattle.commands_spec.specs.PutData.{putDataOf}
 use Rattle.commands_spec.specs.ReadRecord.{asked, readRecordOf}
 
 -- a plain command past step 5: the record that READ RECORD reads, the command's bytes and data, the random bytes
-unfoldable pub plainOf : Plain → Head → List ℕ → Session → Apdu → List ℕ → List ℕ → List ℕ → Outcome
+unfoldable pub plainOf : Plain → Head → Record → Session → Apdu → List ℕ → List ℕ → List ℕ → Outcome
 plainOf Select h r s a command body random = selectOf h s body
 plainOf InitializeUpdate h r s a command body random = initializeUpdateOf h s (a .p1) body random
 plainOf ExternalAuthenticate h r s a command body random = externalAuthenticateOf (s .pending) h s (a .p1) command body
@@ -69,7 +72,7 @@ authorized g h s a command =
     (refused h (closed s) 0x6982)
 
 -- steps 3 to 5 by the kind of command, and step 2's refusals
-unfoldable pub onInstruction : Instruction → Head → List ℕ → Session → Apdu → List ℕ → List ℕ → Outcome
+unfoldable pub onInstruction : Instruction → Head → Record → Session → Apdu → List ℕ → List ℕ → Outcome
 onInstruction (IsPlain p) h r s a command random =
     decided (plainStatus p (s .selected) a (h .fixed .logsize)) h (ended s) (plainOf p h r s a command (dataOf command (a .lc)) random)
 onInstruction (IsSigned g) h r s a command random =
@@ -78,7 +81,7 @@ onInstruction UnknownClass h r s a command random = refused h (ended s) 0x6E00
 onInstruction UnknownInstruction h r s a command random = refused h (ended s) 0x6D00
 
 -- step 2, and step 1's refusal
-unfoldable pub onParsed : Parsed → Head → List ℕ → Session → List ℕ → List ℕ → Outcome
+unfoldable pub onParsed : Parsed → Head → Record → Session → List ℕ → List ℕ → Outcome
 onParsed (Command a) h r s command random = onInstruction (instruction (a .cla) (a .ins)) h r s a command random
 onParsed WrongLength h r s command random = refused h (ended s) 0x6700
 
@@ -87,7 +90,7 @@ unfoldable pub named : List ℕ → Instruction
 named command = instruction (byteAt command 0) (byteAt command 1)
 
 -- on a head, and the record that the command would read
-unfoldable pub respondTo : Head → List ℕ → Session → List ℕ → List ℕ → Outcome
+unfoldable pub respondTo : Head → Record → Session → List ℕ → List ℕ → Outcome
 respondTo h r s command random = onParsed (parsed command) h r s command random
 
 -- on a card
@@ -97,5 +100,4 @@ respond c s command random = respondTo (c .head) (getD (c .log) (asked command) 
 -- the card afterwards
 unfoldable pub cardAfter : Card → Session → List ℕ → List ℕ → Card
 cardAfter c s command random =
-    let o = respond c s command random in
-    after (changesOf (o .effect) (c .head .state) (o .head) (o .entry)) c
+    after (commitsOf (respond c s command random)) c

@@ -9,7 +9,7 @@ use Rattle.octets.specs.Bytes.{same}
 use Rattle.card.specs.declared.head.Head.{Head}
 use Rattle.session.specs.declared.Session.{Session}
 use Rattle.session.specs.Transitions.{reselected}
-use Rattle.commands_spec.specs.declared.outcome.Effect.the-variants.{Unchanged}
+use Rattle.commands_spec.specs.declared.outcome.Commits.the-variants.{Unchanged}
 use Rattle.commands_spec.specs.declared.outcome.Outcome.{Outcome}
 use Rattle.commands_spec.specs.Outcomes.{refused, done}
 use Rattle.commands_spec.specs.Status.{administrative, operational}
@@ -21,6 +21,6 @@ selectAnswer h verified = h .purse .parameters .identifier ++ administrative h v
 -- the command past step 5
 unfoldable pub selectOf : Head → Session → List ℕ → Outcome
 selectOf h s aid =
-    pick (same aid (take (h .fixed .aidlen) (h .fixed .aid)))
+    pick (same aid (take (h .purse .aid .size) (h .purse .aid .bytes)))
     (done Unchanged h (reselected true s) (selectAnswer h (s .verified)))
     (refused h (reselected false s) 0x6A82)

@@ -12,7 +12,7 @@ unfoldable pub administrative : Head → Bool → ℕ
 administrative h verified =
     pick (h .purse .parameters .personalized) 0x10 0
     + pick (h .purse .parameters .bank .defined && h .pin .defined) 0x20 0
-    + pick (not (eqb (h .purse .parameters .agent .length) 0)) 0x40 0
+    + pick (not (eqb (h .purse .parameters .agent .size) 0)) 0x40 0
     + pick verified 0x80 0
 
 -- "remaining transactions, currency, balance, allowed debit (lesser of balance and maximum debit), allowed credit (maximum balance
@@ -21,6 +21,6 @@ unfoldable pub operational : Head → List ℕ
 operational h =
     word (h .shared .maxnumber - h .state .number)
     ++ word (h .purse .parameters .currency)
-    ++ word (h .state .balance)
-    ++ word (min (h .state .balance) (h .purse .parameters .maxdebit))
-    ++ word (h .purse .parameters .maxbalance - h .state .balance)
+    ++ word (h .purse .balance)
+    ++ word (min (h .purse .balance) (h .purse .parameters .maxdebit))
+    ++ word (h .purse .parameters .maxbalance - h .purse .balance)

@@ -11,11 +11,12 @@ use Rattle.card.specs.declared.head.Head.{Head}
 use Rattle.session.specs.declared.Session.{Session}
 use Rattle.session.specs.Transitions.{ended}
 use Rattle.session.specs.Access.{access, ADMIN}
-use Rattle.commands_spec.specs.declared.outcome.Effect.the-variants.{ParametersOnly}
+use Rattle.commands_spec.specs.declared.outcome.Commits.the-variants.{HotAndCold}
 use Rattle.commands_spec.specs.declared.outcome.Outcome.{Outcome}
 use Rattle.commands_spec.specs.declared.store.Stored.{Stored}
 use Rattle.commands_spec.specs.Outcomes.{done, decided}
-use Rattle.commands_spec.specs.Updates.{withParameters, dekOf}
+use Rattle.card.specs.Updates.{withParameters}
+use Rattle.commands_spec.specs.KeySets.{dekOf}
 use Rattle.commands_spec.specs.Data.{valueOk, datumSet}
 
 -- every TLV ends within the data; n bounds how many there are
@@ -26,8 +27,8 @@ within (suc n) (tag ∷ []) = false
 within (suc n) (tag ∷ size ∷ l) = leb size (length l) && within n (drop size l)
 
 -- a TLV was refused
-unfoldable pub spoiled : Stored → Stored
-spoiled st = record { good = false; seen = st .seen; head = st .head }
+unfoldable pub rejected : Stored → Stored
+rejected st = record { good = false; seen = st .seen; head = st .head }
 
 -- before the first TLV
 abbrev pub unread : Head → Stored
@@ -42,7 +43,7 @@ unfoldable pub stored : List ℕ → Stored → ℕ → List ℕ → Stored
 stored dek st tag v =
     pick (acceptable (st .seen) tag v)
     (record { good = st .good; seen = set (st .seen) tag 1; head = datumSet dek tag v (st .head) })
-    (spoiled st)
+    (rejected st)
 
 -- all of them, of which every one ends within the data
 unfoldable pub storedAll : ℕ → List ℕ → List ℕ → Stored → Stored
@@ -58,9 +59,9 @@ complete seen =
 
 -- steps 7, 9 and 11; `keyed`: sets 1 and 2 are defined, `inside`: no TLV past the end, `good`: the rest of the data
 unfoldable pub storeStatus : Bool → Bool → ℕ → Bool → Bool → ℕ
-storeStatus personalized keyed level inside good =
+storeStatus personalized keyed held inside good =
     refuse (personalized || not keyed) 0x6985
-    (refuse (ltb level ADMIN) 0x6982
+    (refuse (ltb held ADMIN) 0x6982
     (refuse (not inside) 0x6A85
     (refuse (not good) 0x6A80
     0x9000)))
@@ -70,7 +71,15 @@ unfoldable pub personalized : Head → Head
 personalized h =
     let p = h .purse .parameters in
     withParameters
-    (record { personalized = true; identifier = p .identifier; currency = p .currency; maxbalance = p .maxbalance; maxdebit = p .maxdebit; bank = p .bank; agent = p .agent })
+    (record {
+      personalized = true;
+      identifier = p .identifier;
+      currency = p .currency;
+      maxbalance = p .maxbalance;
+      maxdebit = p .maxdebit;
+      bank = p .bank;
+      agent = p .agent;
+    })
     h
 
 -- the command past step 6
@@ -81,4 +90,4 @@ storeDataOf h s body =
     (storeStatus (h .purse .parameters .personalized) (h .purse .debit .defined && h .purse .credit .defined)
     (access (s .channel .level)) (within (length body) body) (st .good && complete (st .seen)))
     h (ended s)
-    (done ParametersOnly (personalized (st .head)) (ended s) [])
+    (done HotAndCold (personalized (st .head)) (ended s) [])

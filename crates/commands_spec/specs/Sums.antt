@@ -6,10 +6,11 @@ use Prim.Native.Nat.{ℕ}
 use lib.Dec.{eqb}
 use Rattle.octets.specs.Choice.{pick}
 use Rattle.octets.specs.Bytes.{zeros, part, same}
-use Rattle.octets.specs.Words.{word, wordAt}
+use Rattle.octets.specs.Words.{word}
 use Rattle.octets.specs.Buffers.{content}
 use Rattle.card.specs.declared.head.KeySet.{KeySet}
 use Rattle.card.specs.declared.head.Head.{Head}
+use Rattle.card.specs.Card.{noKeys, noAid}
 use Rattle.session.specs.declared.Set.the-variants.{Credit}
 use Rattle.session.specs.declared.Level.the-variants.{Rmac}
 use Rattle.session.specs.declared.Pending.the-variants.{Nothing}
@@ -19,9 +20,9 @@ use Rattle.commands_spec.specs.Select.{selectOf}
 use Rattle.commands_spec.specs.InitializeTransaction.{initializeTransactionOf}
 use Rattle.commands_spec.specs.CompleteTransaction.{completeTransactionOf}
 
--- the keys of each set
+-- each key set
 unfoldable pub keys : KeySet
-keys = record { defined = true; enc = zeros 16; mac = zeros 16; dek = zeros 16 }
+keys = record { defined = true; keys = noKeys }
 
 -- the currency of the card and of each transaction
 abbrev pub currency : ℕ
@@ -31,9 +32,10 @@ currency = 0x03D2
 unfoldable pub card : ℕ → ℕ → ℕ → ℕ → ℕ → Head
 card balance maxbalance maxdebit number maxnumber =
     record {
-      fixed = record { aidlen = 5; aid = zeros 16; logsize = 10; maxtries = 3 };
-      shared = record { maxnumber = maxnumber; admin = keys };
+      fixed = record { logsize = 10; maxtries = 3 };
+      shared = record { maxnumber = maxnumber; admin = noKeys };
       purse = record {
+        aid = record { size = 5; bytes = zeros 16 };
         parameters = record {
           personalized = true;
           identifier = zeros 4;
@@ -41,13 +43,14 @@ card balance maxbalance maxdebit number maxnumber =
           maxbalance = maxbalance;
           maxdebit = maxdebit;
           bank = record { defined = false; value = zeros 16 };
-          agent = record { length = 0; value = zeros 16 };
+          agent = noAid;
         };
         debit = keys;
         credit = keys;
+        balance = balance;
       };
       pin = record { defined = false; block = zeros 8 };
-      state = record { number = number; balance = balance; tries = 3 };
+      state = record { number = number; tries = 3 };
     }
 
 -- a channel of key set 2 with R-MAC, and nothing pending
@@ -68,7 +71,7 @@ transaction h p1 amount =
     let first = initializeTransactionOf h session p1 (word currency ++ word amount) in
     let second = completeTransactionOf h (first .session) (zeros 16) in
     pick (eqb (first .status) 0x9000)
-    (first .status ∷ second .status ∷ second .head .state .balance ∷ wordAt (second .entry) 4 ∷ [])
+    (first .status ∷ second .status ∷ second .head .purse .balance ∷ second .logged .amount ∷ [])
     (first .status ∷ [])
 
 -- a debit's and a cash credit's P1
@@ -105,7 +108,11 @@ table =
     ∷ record { p = 9; got = transaction (card 1000 32767 500 0 100) debit 500; due = 0x9000 ∷ 0x9000 ∷ 500 ∷ 0xFE0C ∷ [] }
     ∷ record { p = 10; got = transaction (card 350 1000 500 9 10) debit 1; due = 0x9000 ∷ 0x9000 ∷ 349 ∷ 0xFFFF ∷ [] }
     ∷ record { p = 11; got = transaction (card 350 1000 500 10 10) debit 1; due = 0x9410 ∷ [] }
-    ∷ record { p = 12; got = selected (card 350 1000 500 9 10); due = word 0x0001 ++ word currency ++ word 0x015E ++ word 0x015E ++ word 0x028A }
+    ∷ record {
+      p = 12;
+      got = selected (card 350 1000 500 9 10);
+      due = word 0x0001 ++ word currency ++ word 0x015E ++ word 0x015E ++ word 0x028A;
+    }
     ∷ []
 
 -- every row's due is what the commands give

@@ -1,5 +1,5 @@
--- The values that tags 01 to 07 may have, by the table of document 01, "What the card keeps": a value as GET DATA reads it, and as STORE DATA
--- and PUT DATA carry it. "Bank information is enciphered under [DEK] in CBC with zero start, but plain in GET DATA." Assumes nothing.
+-- The values that tags 01 to 07 may have, by the table of document 01, "What the card keeps": a value as GET DATA reads it, and as STORE
+-- DATA and PUT DATA carry it. "Bank information is enciphered under [DEK] in CBC with zero start, but plain in GET DATA." Assumes nothing.
 use mathlib.Core.List.{List, [], _∷_, _++_}
 use mathlib.Core.Path.{_≡_}
 use Prim.Native.Nat.{ℕ, _≤_}
@@ -30,8 +30,8 @@ pub data KnownTag : ℕ → Type 0 where
 -- what PUT DATA may set on a card: no identifier, a currency where the balance is 0, no maximum below what it bounds
 pub record Settable (h : Head) (tag : ℕ) (v : List ℕ) : Type 0 where
   pub identifier : tag ≡ 0x01 → ⊥
-  pub currency : tag ≡ 0x02 → h .state .balance ≡ 0
-  pub balance : tag ≡ 0x03 → h .state .balance ≤ wordAt v 0
+  pub currency : tag ≡ 0x02 → h .purse .balance ≡ 0
+  pub balance : tag ≡ 0x03 → h .purse .balance ≤ wordAt v 0
   pub number : tag ≡ 0x05 → h .state .number ≤ wordAt v 0
 
 -- ---- STORE DATA's TLVs

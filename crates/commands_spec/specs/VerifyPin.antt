@@ -1,6 +1,6 @@
 -- VERIFY PIN 94 20 00 00: "8 bytes under the ENC session key; not signed. Unpersonalized 6985; no PIN 6A81; below CREDIT 6982; no
 -- tries 6983. A wrong or ill-formed PIN: one try fewer, flag cleared, 6300. Right: tries full, flag set." The try is spent before the
--- PIN is judged: the first of the two changes is `tried` of the card's state, whatever was sent. Assumes nothing.
+-- PIN is judged: the first commit leaves `tried` of the card's state, whatever was sent. Assumes nothing.
 use mathlib.Core.Bool.{Bool, true, false, not}
 use mathlib.Core.List.{List, []}
 use Prim.Native.Nat.{ℕ}
@@ -10,34 +10,34 @@ use Rattle.octets.specs.Bytes.{same}
 use Rattle.octets.specs.Words.{word}
 use Rattle.octets.specs.Buffers.{holding}
 use Rattle.card.specs.declared.head.Head.{Head}
-use Rattle.card.specs.Card.{void}
+use Rattle.card.specs.Log.{void}
 use Rattle.session.specs.declared.Session.{Session}
 use Rattle.session.specs.Transitions.{ended, flagged}
 use Rattle.session.specs.Access.{access, CREDIT}
 use Rattle.channel.specs.Channel.{received}
-use Rattle.commands_spec.specs.declared.outcome.Effect.the-variants.{PinTry}
+use Rattle.commands_spec.specs.declared.outcome.Commits.the-variants.{Hot, HotTwice}
 use Rattle.commands_spec.specs.declared.outcome.Outcome.{Outcome}
 use Rattle.commands_spec.specs.Outcomes.{done, decided, tried}
-use Rattle.commands_spec.specs.Updates.{withState, withTries}
+use Rattle.card.specs.Updates.{withState, withTries}
 
 -- steps 7 to 9, and 6983
 unfoldable pub verifyStatus : Bool → Bool → ℕ → ℕ → ℕ
-verifyStatus personalized defined level tries =
+verifyStatus personalized defined held tries =
     refuse (not personalized) 0x6985
     (refuse (not defined) 0x6A81
-    (refuse (ltb level CREDIT) 0x6982
+    (refuse (ltb held CREDIT) 0x6982
     (refuse (eqb tries 0) 0x6983
     0x9000)))
 
--- the PIN is judged
+-- a try is spent; then, where the PIN is right, tries are full
 unfoldable pub judged : Bool → Head → Session → Outcome
-judged true h s = done (PinTry true) (withTries (h .fixed .maxtries) h) (flagged true s) []
+judged true h s = done (HotTwice (tried (h .state))) (withTries (h .fixed .maxtries) h) (flagged true s) []
 judged false h s =
     record {
       status = 0x6300;
-      effect = PinTry false;
+      commits = Hot;
       head = withState (tried (h .state)) h;
-      entry = void;
+      logged = void;
       reply = holding (word 0x6300);
       session = flagged false s;
     }

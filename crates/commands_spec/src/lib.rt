@@ -2,5 +2,5 @@
 pub mod outcome;
 pub mod store;
 
-pub use outcome::Effect;
+pub use outcome::Commits;
 pub use outcome::Outcome;

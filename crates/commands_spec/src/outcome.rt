@@ -1,25 +1,25 @@
 // What a command gives.
 use card::Head;
+use card::Record;
+use card::State;
 use octets::Buffer;
 use session::Session;
 
-// The kind of change that a command makes to the card: none; block H; H and a log record; block C; both; for VERIFY PIN one try
-// fewer and then, where the PIN was right, tries full.
-pub enum Effect {
+// The commits that a command makes: none; block H; H and a log record; H and block C; H with a state, and then H.
+pub enum Commits {
     Unchanged,
-    StateOnly,
-    StateAndEntry,
-    ParametersOnly,
-    StateAndParameters,
-    PinTry(bool),
+    Hot,
+    HotAndRecord,
+    HotAndCold,
+    HotTwice(State),
 }
 
-// The status word, which also ends the reply; the card's head afterwards; the new log record, zeros where there is none.
+// The status word, which also ends the reply; the commits; the card's head afterwards; the new log record, void where there is none.
 pub struct Outcome {
     pub status: u16,
-    pub effect: Effect,
+    pub commits: Commits,
     pub head: Head,
-    pub entry: [u8; 24],
+    pub logged: Record,
     pub reply: Buffer,
     pub session: Session,
 }

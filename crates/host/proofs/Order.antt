@@ -11,7 +11,7 @@ use native.Mathlib.Omega.{arith}
 use borrow.Author.Tests.{eq-eqb, ne-eqb, le-ltb, lt-ltb}
 use lib.ListN.{length}
 use Rattle.octets.specs.Bytes.{AreBytes, zeros}
-use Rattle.card.specs.Layout.{memorySize}
+use Rattle.memory.specs.Layout.{memorySize}
 use Rattle.session.specs.declared.Session.{Session}
 use Rattle.session.specs.Packing.{unpacked}
 use Rattle.session.proofs.Sizes.{Sized}

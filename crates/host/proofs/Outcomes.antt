@@ -8,7 +8,7 @@ use borrow.Author.Tests.{eq-eqb, ne-eqb, le-ltb}
 use lib.ListN.{length}
 use Rattle.octets.specs.Bytes.{AreBytes, zeros, paste}
 use Rattle.octets.proofs.Pasting.{paste-whole}
-use Rattle.card.specs.Layout.{memorySize}
+use Rattle.memory.specs.Layout.{memorySize}
 use Rattle.session.specs.declared.Session.{Session}
 use Rattle.session.specs.declared.packing.Unpacked.{Unpacked}
 use Rattle.session.specs.Packing.{packed, unpacked, shown, unpacking}

@@ -7,7 +7,7 @@ use mathlib.Core.Option.{none}
 use mathlib.Core.Path.{_≡_}
 use Prim.Native.Nat.{ℕ, _<_}
 use lib.ListN.{length}
-use Rattle.card.specs.Reading.{readCard}
+use Rattle.memory.specs.Reading.{readCard}
 use Rattle.session.specs.Packing.{unpacked}
 use Rattle.commands_spec.specs.Order.{Rule}
 use Rattle.purse_spec.specs.Calls.{awaits}

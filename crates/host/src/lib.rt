@@ -5,7 +5,7 @@ mod result;
 ghost use mathlib.Core.List.{[]};
 ghost use mathlib.Core.Path.{_≡_};
 ghost use Rattle.host.specs.Host.{handed, installCall, startCall, commandCall};
-use card::layout;
+use memory::MEMORY_SIZE;
 use purse::LEAST_AREA;
 use result::result;
 use session::unpack;
@@ -24,7 +24,7 @@ pub extern "C" fn purse_install(
     ensures { λ r. ⌜ handed r (now (memory .exit)) (now (session .exit)) []
         ≡ installCall (now (memory .entry)) (now (session .entry)) (now (bytes .entry)) limit ⌝ }
 {
-    if memory.len() != layout::MEMORY_SIZE {
+    if memory.len() != MEMORY_SIZE {
         return 1;
     }
     if session.len() != SESSION_SIZE {
@@ -40,7 +40,7 @@ pub extern "C" fn purse_start_up(memory: &mut [u8], session: &mut [u8], limit: u
     ensures { λ r. ⌜ handed r (now (memory .exit)) (now (session .exit)) []
         ≡ startCall (now (memory .entry)) (now (session .entry)) limit ⌝ }
 {
-    if memory.len() != layout::MEMORY_SIZE {
+    if memory.len() != MEMORY_SIZE {
         return 1;
     }
     if session.len() != SESSION_SIZE {
@@ -64,7 +64,7 @@ pub extern "C" fn purse_command(
         ≡ commandCall (now (memory .entry)) (now (session .entry)) (now (command .entry))
         (now (random .entry)) (now (response .entry)) limit ⌝ }
 {
-    if memory.len() != layout::MEMORY_SIZE {
+    if memory.len() != MEMORY_SIZE {
         return 1;
     }
     if response.len() < LEAST_AREA {

@@ -9,15 +9,15 @@ use Rattle.octets.specs.Buffers.{holding, appended}
 use Rattle.octets.specs.Words.{word}
 use Rattle.octets.proofs.Holding.{appended-holding}
 use Rattle.card.specs.declared.head.Head.{Head}
-use Rattle.card.specs.Card.{void}
+use Rattle.card.specs.Log.{void}
 use Rattle.session.specs.declared.Session.{Session}
-use Rattle.commands_spec.specs.declared.outcome.Effect.{Effect}
+use Rattle.commands_spec.specs.declared.outcome.Commits.{Commits}
 use Rattle.commands_spec.specs.declared.outcome.Outcome.{Outcome}
 use Rattle.commands_spec.specs.Outcomes.{done}
 
 -- of at most 126 bytes, so that the status word has room
-pub done-held : {effect : Effect} {h : Head} {s : Session} {b : Buffer} {r : Outcome}
-    → r ≡ record { status = 0x9000; effect = effect; head = h; entry = void; reply = appended b (word 0x9000); session = s }
+pub done-held : {effect : Commits} {h : Head} {s : Session} {b : Buffer} {r : Outcome}
+    → r ≡ record { status = 0x9000; commits = effect; head = h; logged = void; reply = appended b (word 0x9000); session = s }
     → (x : List ℕ) → b ≡ holding x → length x ≤ 126 → r ≡ done effect h s x
 unfolding done
 done-held d x e h =

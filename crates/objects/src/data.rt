@@ -8,12 +8,12 @@ ghost use Rattle.octets.specs.Choice.{pick};
 ghost use Rattle.octets.specs.Words.{word};
 ghost use Rattle.commands_spec.specs.Data.{agentOf, bankOf, datum, datumSet, parameterSet};
 use crate::status::administrative;
-use crate::updates::with_maxnumber;
-use crate::updates::with_parameters;
-use card::Agent;
+use card::Aid;
 use card::Bank;
 use card::Head;
 use card::Parameters;
+use card::updates::with_maxnumber;
+use card::updates::with_parameters;
 use channel::bank_received;
 use octets::Buffer;
 use octets::append;
@@ -54,13 +54,13 @@ fn capped(n: usize) -> u8
 }
 
 // An agent's AID; undefined where it is empty.
-pub fn agent_of(v: &[u8]) -> Agent
+pub fn agent_of(v: &[u8]) -> Aid
     ensures { λ r. ⌜ r ≡ agentOf (now (v .entry)) ⌝ }
 {
-    let value = part16(v, 0);
-    Agent {
-        length: capped(v.len()),
-        value: value,
+    let bytes = part16(v, 0);
+    Aid {
+        size: capped(v.len()),
+        bytes: bytes,
     }
 }
 
@@ -147,15 +147,15 @@ fn bank_value(bank: Bank) -> Buffer
 }
 
 // An agent's AID; nothing where it is undefined.
-fn agent_value(agent: Agent) -> Buffer
-    ensures { λ r. ⌜ (r ≡ holding (take (agent .length) (agent .value))) × (length (take (agent .length) (agent .value)) ≤ 16) ⌝ }
+fn agent_value(agent: Aid) -> Buffer
+    ensures { λ r. ⌜ (r ≡ holding (take (agent .size) (agent .bytes))) × (length (take (agent .size) (agent .bytes)) ≤ 16) ⌝ }
 {
-    let n = agent.length as usize;
-    let value = agent.value;
+    let n = agent.size as usize;
+    let bytes = agent.bytes;
     if 16 < n {
-        return append16(empty(), value);
+        return append16(empty(), bytes);
     }
-    append(empty(), &value[..n])
+    append(empty(), &bytes[..n])
 }
 
 // What a tag reads as, 16 bytes at most.
@@ -178,7 +178,7 @@ pub fn datum(head: Head, verified: bool, tag: u8) -> Buffer
         0x06 => bank_value(bank),
         0x07 => agent_value(agent),
         0x14 => number(state.number),
-        0x15 => number(state.balance),
+        0x15 => number(purse.balance),
         0x16 => byte(state.tries),
         0x17 => byte(administrative(head, verified)),
         _ => empty(),

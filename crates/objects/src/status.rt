@@ -1,5 +1,4 @@
 // Administrative and operational status.
-ghost use mathlib.Core.Bool.{_&&_};
 ghost use mathlib.Core.List.{_++_};
 ghost use mathlib.Core.Path.{_≡_};
 ghost use Prim.Native.Nat.{_-_, _≤_, min};
@@ -7,6 +6,7 @@ ghost use Rattle.octets.specs.Choice.{pick};
 ghost use Rattle.octets.specs.Words.{word};
 ghost use Rattle.commands_spec.specs.Status.{administrative, operational};
 use card::Head;
+use octets::both;
 use octets::high;
 use octets::low;
 
@@ -20,16 +20,6 @@ fn bit(on: bool, value: u8) -> u8
     0
 }
 
-// Both of two.
-fn both(a: bool, b: bool) -> bool
-    ensures { λ r. ⌜ r ≡ (a && b) ⌝ }
-{
-    if a {
-        return b;
-    }
-    false
-}
-
 // 10 personalized, 20 bank information and PIN both defined, 40 agent defined, 80 PIN validated.
 pub fn administrative(head: Head, verified: bool) -> u8
     ensures { λ r. ⌜ r ≡ administrative head verified ⌝ }
@@ -39,10 +29,10 @@ pub fn administrative(head: Head, verified: bool) -> u8
     let bank = p.bank;
     let agent = p.agent;
     let pin = head.pin;
-    let length = agent.length;
+    let size = agent.size;
     let personalized = bit(p.personalized, 0x10);
     let identified = bit(both(bank.defined, pin.defined), 0x20);
-    let represented = bit(length != 0, 0x40);
+    let represented = bit(size != 0, 0x40);
     let validated = bit(verified, 0x80);
     personalized + identified + represented + validated
 }
@@ -94,7 +84,7 @@ pub fn operational(head: Head) -> [u8; 10]
     let shared = head.shared;
     let state = head.state;
     let left = difference(shared.maxnumber, state.number);
-    let debit = lesser(state.balance, p.maxdebit);
-    let credit = difference(p.maxbalance, state.balance);
-    words(left, p.currency, state.balance, debit, credit)
+    let debit = lesser(purse.balance, p.maxdebit);
+    let credit = difference(p.maxbalance, purse.balance);
+    words(left, p.currency, purse.balance, debit, credit)
 }

@@ -10,13 +10,14 @@ use lib.ListN.{length}
 use Rattle.octets.specs.Choice.{pick}
 use Rattle.octets.specs.Bytes.{byteAt, paste}
 use Rattle.stores.specs.Stores.{leaves}
+use Rattle.card.specs.declared.head.Aid.{Aid}
 use Rattle.card.specs.declared.head.Fixed.{Fixed}
-use Rattle.card.specs.declared.head.KeySet.{KeySet}
-use Rattle.card.specs.Layout.{memorySize}
-use Rattle.card.specs.Changes.{installPlan}
+use Rattle.card.specs.declared.head.Keys.{Keys}
+use Rattle.memory.specs.Layout.{memorySize}
+use Rattle.memory.specs.Changes.{installPlan}
 use Rattle.session.specs.Transitions.{unselected}
 use Rattle.purse_spec.specs.Calls.{refusal}
-use Rattle.purse_spec.specs.Installation.{dataOk, fixedOf, keysOf, installation}
+use Rattle.purse_spec.specs.Installation.{dataOk, dataFixed, dataAid, dataKeys, installation}
 use Rattle.purse.specs.declared.calls.Called.{Called}
 use Rattle.purse.specs.Called.{Gives, storeless, underLimit}
 use Rattle.purse.proofs.Outcomes.{performed-gives}
@@ -56,13 +57,13 @@ module _ (m d : List ℕ) (limit : ℕ) (r : Called) where
   unfolding installation refusal
   install-data h f e = let t : eqb (length m) memorySize ≡ true = eq-eqb _ _ h in rw (t, f, e) (record { called = refl; memory = refl; response = refl })
 
-  pub install-run : (m′ : List ℕ) (fixed : Fixed) (admin : KeySet) (n : ℕ) → length m ≡ memorySize → dataOk d ≡ true
-      → fixed ≡ fixedOf d → admin ≡ keysOf d → n ≡ length (installPlan fixed admin) → m′ ≡ leaves (installPlan fixed admin) limit m
-      → r ≡ underLimit n limit 0 unselected → Installed m d limit r m′
+  pub install-run : (m′ : List ℕ) (fixed : Fixed) (aid : Aid) (admin : Keys) (n : ℕ) → length m ≡ memorySize → dataOk d ≡ true
+      → fixed ≡ dataFixed d → aid ≡ dataAid d → admin ≡ dataKeys d → n ≡ length (installPlan fixed aid admin)
+      → m′ ≡ leaves (installPlan fixed aid admin) limit m → r ≡ underLimit n limit 0 unselected → Installed m d limit r m′
   unfolding installation paste
-  install-run m′ fixed admin n h f p q i j e =
+  install-run m′ fixed aid admin n h f p a q i j e =
       let t : eqb (length m) memorySize ≡ true = eq-eqb _ _ h in
-      rw (t, f, ← p, ← q) (performed-gives (installPlan fixed admin) limit m unselected [] [] n 0 m′ [] r i refl j (none (ltb limit n)) e)
+      rw (t, f, ← p, ← a, ← q) (performed-gives (installPlan fixed aid admin) limit m unselected [] [] n 0 m′ [] r i refl j (none (ltb limit n)) e)
     where
       none : (b : Bool) → _≡_ {A = List ℕ} [] (pick b [] [])
       none true = refl

@@ -12,19 +12,24 @@ use Rattle.octets.specs.Bytes.{paste}
 use Rattle.octets.specs.Buffers.{content}
 use Rattle.stores.specs.Stores.{Store, applied, leaves}
 use Rattle.stores.proofs.Sequence.{leaves-row}
-use Rattle.card.specs.declared.head.State.{State}
-use Rattle.card.specs.Card.{Card}
-use Rattle.card.specs.Changes.{Change, state, plan}
-use Rattle.card.proofs.Bounds.{plan-length}
+use Rattle.card.specs.declared.head.Head.{Head}
+use Rattle.card.specs.declared.change.Change.{Change}
+use Rattle.card.specs.Changes.{hotChange}
+use Rattle.memory.specs.Changes.{plan}
+use Rattle.memory.proofs.Bounds.{plan-length}
 use Rattle.session.specs.declared.Session.{Session}
 use Rattle.session.specs.Transitions.{unselected}
 use Rattle.commands_spec.specs.declared.outcome.Outcome.{Outcome}
-use Rattle.commands_spec.specs.Outcomes.{changesOf}
+use Rattle.commands_spec.specs.Outcomes.{changesOf, commitsOf}
 use Rattle.purse_spec.specs.Calls.{performed}
 use Rattle.purse_spec.specs.Commands.{plans, outcomePlan, outcomeRun}
 use Rattle.purse.specs.declared.calls.Called.{Called}
 use Rattle.purse.specs.Called.{Gives, underLimit}
 use Rattle.purse.specs.Made.{Made}
+
+-- a change of H alone has as many stores on any memory
+pub hot-length : (h : Head) (m : List ℕ) → length (plan (hotChange h) m) ≡ 8
+hot-length h m = plan-length (hotChange h) m (record { logged = λ e. absurd (false≢true e); cold = λ e. absurd (false≢true e) })
 
 module _ (m : List ℕ) (limit : ℕ) where
   pub made-none : Made [] m limit 0 m
@@ -35,25 +40,16 @@ module _ (m : List ℕ) (limit : ℕ) where
   unfolding plans
   made-one x n m′ a b = rw (append-nil (plan x m)) (a, b)
 
-  -- one change of H, or two, the second in the room that the first left
-  pub made-once : (s t : State) (again : Bool) (n : ℕ) (m′ : List ℕ) → again ≡ false → n ≡ length (plan (state s) m) → m′ ≡ leaves (plan (state s) m) limit m
-      → Made (state s ∷ pick again (state t ∷ []) []) m limit n m′
-  made-once s t true n m′ e a b = absurd (false≢true (sym e))
-  made-once s t false n m′ e a b = made-one (state s) n m′ a b
-
-  pub made-twice : (s t : State) (again : Bool) (n k room : ℕ) (m₁ m₂ : List ℕ) → again ≡ true → n ≡ length (plan (state s) m) → m₁ ≡ leaves (plan (state s) m) limit m
-      → room ≡ limit - n → k ≡ length (plan (state t) m₁) → m₂ ≡ leaves (plan (state t) m₁) room m₁ → Made (state s ∷ pick again (state t ∷ []) []) m limit (n + k) m₂
+  -- two changes of H, the second in the room that the first left
+  pub made-two : (g h : Head) (n k room : ℕ) (m₁ m₂ : List ℕ) → n ≡ length (plan (hotChange g) m) → m₁ ≡ leaves (plan (hotChange g) m) limit m
+      → room ≡ limit - n → k ≡ length (plan (hotChange h) m₁) → m₂ ≡ leaves (plan (hotChange h) m₁) room m₁
+      → Made (hotChange g ∷ hotChange h ∷ []) m limit (n + k) m₂
   unfolding plans
-  made-twice s t false n k room m₁ m₂ i a b r c d = absurd (false≢true i)
-  made-twice s t true n k room m₁ m₂ i a b r c d =
-      let p = plan (state s) m in
-      let q = plan (state t) (applied p m) in
-      let e : k ≡ length q = c ∙ plan-length (state t) m₁ tt ∙ sym (plan-length (state t) (applied p m) tt) in
-      rw (append-nil q) (omega (arith, length-append p q, a, e), d ∙ rw (r, a, b) (leaves-row p (plan (state t)) limit m))
-
--- a change of H has few stores
-pub state-count : (s : State) (m : List ℕ) (n : ℕ) → n ≡ length (plan (state s) m) → n ≡ 8
-state-count s m n e = e ∙ plan-length (state s) m tt
+  made-two g h n k room m₁ m₂ a b r c d =
+      let p = plan (hotChange g) m in
+      let q = plan (hotChange h) (applied p m) in
+      let e : k ≡ length q = c ∙ hot-length h m₁ ∙ sym (hot-length h (applied p m)) in
+      rw (append-nil q) (omega (arith, length-append p q, a, e), d ∙ rw (r, a, b) (leaves-row p (plan (hotChange h)) limit m))
 
 -- ---- what a run of a plan gives
 
@@ -73,10 +69,10 @@ module _ (p : List Store) (limit : ℕ) (m : List ℕ) (s : Session) (reply area
       by-limit false = record { called = refl; memory = refl; response = refl }
 
 -- of an outcome
-pub outcome-gives : (c : Card) (o : Outcome) (m area : List ℕ) (limit n k : ℕ) (m′ area′ : List ℕ) (r : Called)
-    → Made (changesOf (o .effect) (c .head .state) (o .head) (o .entry)) m limit n m′
+pub outcome-gives : (o : Outcome) (m area : List ℕ) (limit n k : ℕ) (m′ area′ : List ℕ) (r : Called)
+    → Made (changesOf (o .commits) (o .head) (o .logged)) m limit n m′
     → area′ ≡ pick (ltb limit n) area (paste area 0 (content (o .reply))) → k ≡ length (content (o .reply)) → r ≡ underLimit n limit k (o .session)
-    → Gives (outcomeRun c o m area limit) r m′ area′
-unfolding outcomePlan
-outcome-gives c o m area limit n k m′ area′ r a b e f =
-    performed-gives (outcomePlan c o m) limit m (o .session) (content (o .reply)) area n k m′ area′ r (a .0) e (a .1) b f
+    → Gives (outcomeRun o m area limit) r m′ area′
+unfolding outcomePlan commitsOf
+outcome-gives o m area limit n k m′ area′ r a b e f =
+    performed-gives (outcomePlan o m) limit m (o .session) (content (o .reply)) area n k m′ area′ r (a .0) e (a .1) b f

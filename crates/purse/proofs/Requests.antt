@@ -12,14 +12,16 @@ use lib.ListN.{length, getD, List·getD-eq-default}
 use Rattle.octets.specs.Bytes.{field}
 use Rattle.octets.proofs.Parts.{field-part, part-all}
 use Rattle.card.specs.declared.head.Head.{Head}
-use Rattle.card.specs.declared.reading.Reading.{Reading}
-use Rattle.card.specs.Card.{Card, void}
-use Rattle.card.specs.Layout.{memorySize}
-use Rattle.card.specs.Reading.{fixedOf, fixedIn, headIn, recordIn, logIn, readable, readCard, reading}
-use Rattle.card.proofs.Cards.{readable-read}
-use Rattle.card.proofs.InPlace.{record-void}
-use Rattle.card.proofs.Ring.{length-rows, row-at}
-use Rattle.card.proofs.Seen.{view, reads}
+use Rattle.card.specs.declared.log.Record.{Record}
+use Rattle.memory.specs.declared.reading.Reading.{Reading}
+use Rattle.card.specs.Log.{void}
+use Rattle.card.specs.Card.{Card}
+use Rattle.memory.specs.Layout.{memorySize}
+use Rattle.memory.specs.Reading.{sizeIn, headIn, recordAt, logIn, readable, readCard, reading}
+use Rattle.memory.proofs.Cards.{readable-read}
+use Rattle.memory.proofs.InPlace.{record-void}
+use Rattle.memory.proofs.Ring.{length-rows, row-at}
+use Rattle.memory.proofs.Seen.{view, reads}
 use Rattle.session.specs.declared.Session.{Session}
 use Rattle.commands_spec.specs.declared.outcome.Outcome.{Outcome}
 use Rattle.commands_spec.specs.ReadRecord.{asked}
@@ -38,26 +40,26 @@ abbrev pub cardIn : List ℕ → Card
 cardIn m = record { head = headIn m; log = logIn m }
 
 -- a record of the log is where memory has it
-pub record-asked : (m : List ℕ) (k : ℕ) → readable m ≡ true → getD (logIn m) k void ≡ recordIn m k
+pub record-asked : (m : List ℕ) (k : ℕ) → readable m ≡ true → getD (logIn m) k void ≡ recordAt m k
 unfolding logIn view
 record-asked m k e =
-    let n = fixedIn (fixedOf m) .logsize in
+    let n = sizeIn m in
     let f = reads m (cardIn m) (readable-read m e) .formed .filled in
     elim (decLe n k) [
-      | yes h ↦ List·getD-eq-default (logIn m) void {n = k} (omega (arith, h, length-rows n (recordIn m))) ∙ record-void m _ k refl (omega (arith, h, f))
-      | no h ↦ row-at n k (recordIn m) void (lt-of-not-le h)
+      | yes h ↦ List·getD-eq-default (logIn m) void {n = k} (omega (arith, h, length-rows n (recordAt m))) ∙ record-void m _ k refl (omega (arith, h, f))
+      | no h ↦ row-at n k (recordAt m) void (lt-of-not-le h)
     ]
 
 module _ (m : List ℕ) (s : Session) (bytes random area : List ℕ) (limit : ℕ) (r : Called) where
   -- on a card in hand
-  pub on-card : (h : Head) (x : List ℕ) (drawn : List ℕ) (o : Outcome) (m′ area′ : List ℕ) → readable m ≡ true → h ≡ headIn m → length random ≡ 8
-      → x ≡ recordIn m (asked bytes) → drawn ≡ field random 0 8 → o ≡ respondTo h x s bytes drawn
-      → ((c : Card) → c .head .state ≡ h .state → Gives (outcomeRun c o m area limit) r m′ area′)
+  pub on-card : (h : Head) (x : Record) (drawn : List ℕ) (o : Outcome) (m′ area′ : List ℕ) → readable m ≡ true → h ≡ headIn m → length random ≡ 8
+      → x ≡ recordAt m (asked bytes) → drawn ≡ field random 0 8 → o ≡ respondTo h x s bytes drawn
+      → Gives (outcomeRun o m area limit) r m′ area′
       → Gives (onCard (readCard m) m s bytes random area limit) r m′ area′
   unfolding onCard awaits respond
   on-card h x drawn o m′ area′ e p n q d t f =
       let k : drawn ≡ random = d ∙ drawn-whole random n in
-      rw (readable-read m e, record-asked m (asked bytes) e, ← q, ← p, ← k, ← t) (f (record { head = h; log = logIn m }) refl)
+      rw (readable-read m e, record-asked m (asked bytes) e, ← q, ← p, ← k, ← t) f
 
   abbrev Answered : ℕ → Type 0
   Answered n = r ≡ storeless n s → Gives (command m s bytes random area limit) r m area

@@ -7,10 +7,10 @@ use borrow.Author.Tests.{eq-eqb, ne-eqb}
 use lib.Dec.{eqb}
 use lib.ListN.{length}
 use Rattle.octets.specs.Choice.{pick}
-use Rattle.card.specs.Layout.{memorySize}
+use Rattle.memory.specs.Layout.{memorySize}
 use Rattle.card.specs.declared.head.Head.{Head}
-use Rattle.card.specs.declared.reading.Reading.{Reading}
-use Rattle.card.specs.Reading.{readable, reading, headIn, noCard}
+use Rattle.memory.specs.declared.reading.Reading.{Reading}
+use Rattle.memory.specs.Reading.{readable, reading, headIn, noCard}
 use Rattle.session.specs.Transitions.{unselected}
 use Rattle.purse_spec.specs.Calls.{refusal}
 use Rattle.purse_spec.specs.Startup.{startup}

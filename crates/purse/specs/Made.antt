@@ -4,7 +4,7 @@ use mathlib.Core.Path.{_≡_}
 use Prim.Native.Nat.{ℕ}
 use lib.ListN.{length}
 use Rattle.stores.specs.Stores.{leaves}
-use Rattle.card.specs.Changes.{Change}
+use Rattle.card.specs.declared.change.Change.{Change}
 use Rattle.purse_spec.specs.Commands.{plans}
 
 -- their stores are n in all, and m′ is left of m

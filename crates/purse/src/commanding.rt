@@ -2,7 +2,7 @@
 ghost use mathlib.Core.Bool.{true};
 ghost use mathlib.Core.Path.{_≡_};
 ghost use lib.ListN.{length};
-ghost use Rattle.card.specs.Reading.{headIn, recordIn, readable, readCard};
+ghost use Rattle.memory.specs.Reading.{headIn, recordAt, readable, readCard};
 ghost use Rattle.commands_spec.specs.ReadRecord.{asked};
 ghost use Rattle.purse_spec.specs.Commands.{onCard, command};
 ghost use Rattle.purse.specs.Called.{Gives};
@@ -10,9 +10,10 @@ use crate::calls::Called;
 use crate::calls::storeless;
 use crate::performing::perform;
 use card::Head;
-use card::layout;
-use card::record_at;
+use card::Record;
 use commands::respond;
+use memory::MEMORY_SIZE;
+use memory::record_at;
 use octets::byte_at;
 use octets::part8;
 use session::Session;
@@ -21,8 +22,8 @@ use session::Session;
 pub const LEAST_AREA: usize = 32;
 
 // The log record that READ RECORD would read: record 1 is the newest.
-fn asked_record(memory: &[u8], bytes: &[u8]) -> [u8; 24]
-    ensures { λ r. ⌜ r ≡ recordIn (now (memory .entry)) (asked (now (bytes .entry))) ⌝ }
+fn asked_record(memory: &[u8], bytes: &[u8]) -> Record
+    ensures { λ r. ⌜ r ≡ recordAt (now (memory .entry)) (asked (now (bytes .entry))) ⌝ }
 {
     let p1 = byte_at(bytes, 2);
     if p1 == 0 {
@@ -45,11 +46,10 @@ fn run(
     ensures { λ r. ⌜ Gives (onCard (readCard (now (memory .entry))) (now (memory .entry)) session
         (now (bytes .entry)) (now (random .entry)) (now (area .entry)) limit) r (now (memory .exit)) (now (area .exit)) ⌝ }
 {
-    let state = head.state;
-    let entry = asked_record(memory, bytes);
+    let asked = asked_record(memory, bytes);
     let drawn = part8(random, 0);
-    let outcome = respond(head, entry, session, bytes, drawn);
-    perform(memory, state, outcome, area, limit)
+    let outcome = respond(head, asked, session, bytes, drawn);
+    perform(memory, outcome, area, limit)
 }
 
 // Answers 0 to 4 and 7. The response leads the area after 0.
@@ -64,7 +64,7 @@ pub fn command(
     ensures { λ r. ⌜ Gives (command (now (memory .entry)) session (now (bytes .entry)) (now (random .entry)) (now (area .entry)) limit)
         r (now (memory .exit)) (now (area .exit)) ⌝ }
 {
-    if memory.len() != layout::MEMORY_SIZE {
+    if memory.len() != MEMORY_SIZE {
         return storeless(1, session);
     }
     if area.len() < LEAST_AREA {
@@ -73,7 +73,7 @@ pub fn command(
     if random.len() != 8 {
         return storeless(4, session);
     }
-    let reading = card::read(memory);
+    let reading = memory::read(memory);
     if !reading.ok {
         return storeless(2, session);
     }

@@ -2,16 +2,19 @@
 ghost use mathlib.Core.Bool.{true};
 ghost use mathlib.Core.List.{[]};
 ghost use mathlib.Core.Path.{_≡_};
-ghost use Rattle.purse_spec.specs.Installation.{dataOk, fixedOf, keysOf, installation};
+ghost use Rattle.purse_spec.specs.Installation.{dataOk, dataAid, dataFixed, dataKeys, installation};
 ghost use Rattle.purse.specs.Called.{Gives};
 use crate::calls::Called;
 use crate::calls::finish;
 use crate::calls::storeless;
+use card::Aid;
 use card::Fixed;
-use card::KeySet;
-use card::layout;
+use card::Keys;
+use card::keys_in;
+use memory::MEMORY_SIZE;
 use octets::byte_at;
 use octets::part16;
+use octets::part48;
 use session::unselected;
 
 // Every number in its range, and as many bytes as they say.
@@ -42,50 +45,53 @@ fn data_ok(bytes: &[u8]) -> bool
     tries <= 15
 }
 
-// AID, log size and tries.
-fn fixed_of(bytes: &[u8]) -> Fixed
+// The AID, zeros after it.
+fn data_aid(bytes: &[u8]) -> Aid
     requires { ⌜ dataOk (now bytes) ≡ true ⌝ }
-    ensures { λ r. ⌜ r ≡ fixedOf (now (bytes .entry)) ⌝ }
+    ensures { λ r. ⌜ r ≡ dataAid (now (bytes .entry)) ⌝ }
 {
     let n = byte_at(bytes, 0);
     let k = n as usize;
     let aid = part16(&bytes[1..1 + k], 0);
+    Aid {
+        size: n,
+        bytes: aid,
+    }
+}
+
+// Log size and tries.
+fn data_fixed(bytes: &[u8]) -> Fixed
+    ensures { λ r. ⌜ r ≡ dataFixed (now (bytes .entry)) ⌝ }
+{
+    let n = byte_at(bytes, 0) as usize;
     Fixed {
-        aidlen: n,
-        aid: aid,
-        logsize: byte_at(bytes, k + 1),
-        maxtries: byte_at(bytes, k + 2),
+        logsize: byte_at(bytes, n + 1),
+        maxtries: byte_at(bytes, n + 2),
     }
 }
 
 // Key set 3.
-fn keys_of(bytes: &[u8]) -> KeySet
-    ensures { λ r. ⌜ r ≡ keysOf (now (bytes .entry)) ⌝ }
+fn data_keys(bytes: &[u8]) -> Keys
+    ensures { λ r. ⌜ r ≡ dataKeys (now (bytes .entry)) ⌝ }
 {
     let at = byte_at(bytes, 0) as usize + 3;
-    let enc = part16(bytes, at);
-    let mac = part16(bytes, at + 16);
-    let dek = part16(bytes, at + 32);
-    KeySet {
-        defined: true,
-        enc: enc,
-        mac: mac,
-        dek: dek,
-    }
+    let keys = part48(bytes, at);
+    keys_in(&keys)
 }
 
 // Answers 0, 1, 6 and 7.
 pub fn install(memory: &mut [u8], bytes: &[u8], limit: usize) -> Called
     ensures { λ r. ⌜ Gives (installation (now (memory .entry)) (now (bytes .entry)) limit) r (now (memory .exit)) [] ⌝ }
 {
-    if memory.len() != layout::MEMORY_SIZE {
+    if memory.len() != MEMORY_SIZE {
         return storeless(1, unselected());
     }
     if !data_ok(bytes) {
         return storeless(6, unselected());
     }
-    let fixed = fixed_of(bytes);
-    let admin = keys_of(bytes);
-    let n = changes::install(memory, fixed, admin, limit);
+    let fixed = data_fixed(bytes);
+    let aid = data_aid(bytes);
+    let admin = data_keys(bytes);
+    let n = memory::install(memory, fixed, aid, admin, limit);
     finish(n, limit, 0, unselected())
 }

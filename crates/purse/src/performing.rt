@@ -5,8 +5,7 @@ ghost use lib.Dec.{ltb};
 ghost use Rattle.octets.specs.Buffers.{content};
 ghost use Rattle.octets.specs.Bytes.{paste};
 ghost use Rattle.octets.specs.Choice.{pick};
-ghost use Rattle.card.specs.Card.{Card};
-ghost use Rattle.card.specs.Changes.{Change};
+ghost use Rattle.card.specs.Changes.{hotChange};
 ghost use Rattle.commands_spec.specs.Outcomes.{changesOf};
 ghost use Rattle.purse_spec.specs.Commands.{outcomeRun};
 ghost use Rattle.purse.specs.Called.{Gives};
@@ -14,49 +13,42 @@ ghost use Rattle.purse.specs.Made.{Made};
 use crate::calls::Called;
 use crate::calls::finish;
 use card::Head;
-use card::State;
-use changes::commit_both;
-use changes::commit_entry;
-use changes::commit_parameters;
-use changes::commit_state;
-use commands_spec::Effect;
+use card::Record;
+use card::cold_change;
+use card::hot_change;
+use card::logged_change;
+use card::updates::with_state;
+use commands_spec::Commits;
 use commands_spec::Outcome;
+use memory::commit;
 use octets::Buffer;
 use stores::left;
-use transactions::verify_pin::tried;
 
-// One change of H, and where `again` says so another: VERIFY PIN's.
-fn commit_twice(memory: &mut [u8], first: State, second: State, again: bool, limit: usize) -> usize
-    ensures { λ r. ⌜ Made (Change.state first ∷ pick again (Change.state second ∷ []) [])
-        (now (memory .entry)) limit r (now (memory .exit)) ⌝ }
+// Two commits of H in a row.
+fn commit_twice(memory: &mut [u8], first: Head, second: Head, limit: usize) -> usize
+    ensures { λ r. ⌜ Made (hotChange first ∷ hotChange second ∷ []) (now (memory .entry)) limit r (now (memory .exit)) ⌝ }
 {
-    let n = commit_state(memory, first, limit);
-    if !again {
-        return n;
-    }
-    let k = commit_state(memory, second, left(limit, n));
+    let n = commit(memory, hot_change(first), limit);
+    let k = commit(memory, hot_change(second), left(limit, n));
     n + k
 }
 
-// The stores of an effect.
-fn commit(
+// The commits of an outcome, in their order.
+fn commit_all(
     memory: &mut [u8],
-    effect: Effect,
-    before: State,
+    commits: Commits,
     head: Head,
-    entry: [u8; 24],
+    logged: Record,
     limit: usize,
 ) -> usize
-    ensures { λ r. ⌜ Made (changesOf effect before head entry) (now (memory .entry)) limit r (now (memory .exit)) ⌝ }
+    ensures { λ r. ⌜ Made (changesOf commits head logged) (now (memory .entry)) limit r (now (memory .exit)) ⌝ }
 {
-    let state = head.state;
-    match effect {
-        Effect::Unchanged => 0,
-        Effect::StateOnly => commit_state(memory, state, limit),
-        Effect::StateAndEntry => commit_entry(memory, state, entry, limit),
-        Effect::ParametersOnly => commit_parameters(memory, head, limit),
-        Effect::StateAndParameters => commit_both(memory, head, limit),
-        Effect::PinTry(right) => commit_twice(memory, tried(before), state, right, limit),
+    match commits {
+        Commits::Unchanged => 0,
+        Commits::Hot => commit(memory, hot_change(head), limit),
+        Commits::HotAndRecord => commit(memory, logged_change(head, logged), limit),
+        Commits::HotAndCold => commit(memory, cold_change(head), limit),
+        Commits::HotTwice(first) => commit_twice(memory, with_state(first, head), head, limit),
     }
 }
 
@@ -70,22 +62,15 @@ fn answer(area: &mut [u8], reply: Buffer, n: usize, limit: usize)
 }
 
 // Memory first, then the response.
-pub fn perform(
-    memory: &mut [u8],
-    before: State,
-    outcome: Outcome,
-    area: &mut [u8],
-    limit: usize,
-) -> Called
-    ensures { λ r. ⌜ ((c : Card) → c .head .state ≡ before
-        → Gives (outcomeRun c outcome (now (memory .entry)) (now (area .entry)) limit) r (now (memory .exit)) (now (area .exit))) ⌝ }
+pub fn perform(memory: &mut [u8], outcome: Outcome, area: &mut [u8], limit: usize) -> Called
+    ensures { λ r. ⌜ Gives (outcomeRun outcome (now (memory .entry)) (now (area .entry)) limit) r (now (memory .exit)) (now (area .exit)) ⌝ }
 {
-    let effect = outcome.effect;
+    let commits = outcome.commits;
     let head = outcome.head;
-    let entry = outcome.entry;
+    let logged = outcome.logged;
     let reply = outcome.reply;
     let session = outcome.session;
-    let n = commit(memory, effect, before, head, entry, limit);
+    let n = commit_all(memory, commits, head, logged, limit);
     answer(area, reply, n, limit);
     finish(n, limit, octets::size(reply), session)
 }

@@ -10,10 +10,10 @@ use native.Mathlib.Omega.{arith}
 use lib.ListN.{length}
 use Rattle.stores.specs.Stores.{answers}
 use Rattle.stores.proofs.Limits.{never-seven, seven-cut, zero-done, reports-count}
-use Rattle.card.specs.Reading.{readable, readCard}
-use Rattle.card.proofs.Seen.{reads}
-use Rattle.card.proofs.Live.{sound}
-use Rattle.card.proofs.Cards.{readable-read}
+use Rattle.memory.specs.Reading.{readable, readCard}
+use Rattle.memory.proofs.Seen.{reads}
+use Rattle.memory.proofs.Live.{sound}
+use Rattle.memory.proofs.Cards.{readable-read}
 use Rattle.commands_spec.specs.Order.{Rule, refuses, passes}
 use Rattle.purse_spec.specs.Calls.{Run, refusal}
 use Rattle.purse_spec.specs.History.{Call, install, start, send, Situation, limited, OfBytes, run, limitOf, sessionFor, areaFor}

@@ -11,15 +11,15 @@ use lib.ListN.{length}
 use Rattle.octets.specs.Bytes.{AreBytes}
 use Rattle.octets.proofs.Rules.{pick-holds}
 use Rattle.card.specs.Card.{Card, freshHead, fresh}
-use Rattle.card.specs.Layout.{memorySize}
-use Rattle.card.specs.Reading.{readCard}
-use Rattle.card.proofs.Installation.{fresh-proper}
+use Rattle.memory.specs.Layout.{memorySize}
+use Rattle.memory.specs.Reading.{readCard}
+use Rattle.card.proofs.FreshCard.{fresh-proper}
 use Rattle.session.specs.Transitions.{unselected}
 use Rattle.session.proofs.Sizes.{unselected-sized}
 use Rattle.commands_spec.specs.CompleteTransaction.{isNoted}
 use Rattle.commands_spec.proofs.Facts.{facts}
 use Rattle.purse_spec.specs.Calls.{Run, refusal, performed}
-use Rattle.purse_spec.specs.Installation.{dataOk, fixedOf, keysOf, installation}
+use Rattle.purse_spec.specs.Installation.{dataOk, dataFixed, dataAid, dataKeys, installation}
 use Rattle.purse_spec.specs.History.{Call, install, start, send, Situation, OfBytes, AllOfBytes, run, isStart, isInstall, next, afterCalls, OnlyStarts, Admissible, IsHistory}
 use Rattle.purse_spec.specs.Ledger.{Ledger, empty, numberOf, hasGrown, fed, startsOf, grewIn, kept}
 use Rattle.purse_spec.proofs.Performed.{by-limit}
@@ -40,9 +40,9 @@ module _ (st : Situation) (b : Ledger) (d : List ℕ) (limit : ℕ) (f : AreByte
   installed-booked e t =
       by-limit (λ (r : Run). (r .answer ≡ 7 → ⊥) → BooksCall x st b r) limit _ _ _ (λ k n. absurd (n refl))
       (λ k n g q. record {
-        card = fresh (fixedOf d) (keysOf d);
+        card = fresh (dataFixed d) (dataAid d) (dataKeys d);
         reads = installed-reads (st .memory) d limit f e t k;
-        proper = fresh-proper (fixedOf d) (keysOf d) (installable d f t);
+        proper = fresh-proper (dataFixed d) (dataAid d) (dataKeys d) (installable d f t);
         sized = unselected-sized;
         sum = refl;
         note = λ z. absurd (false≢true z);
@@ -100,8 +100,8 @@ list-holds (y ∷ xs) st b f a h =
 pub record Balanced (st : Situation) (b : Ledger) : Type 0 where
   pub card : Card
   pub reads : readCard (st .memory) ≡ some card
-  pub sum : card .head .state .balance + b .debits ≡ b .credits
-  pub limit : card .head .state .balance ≤ card .head .purse .parameters .maxbalance
+  pub sum : card .head .purse .balance + b .debits ≡ b .credits
+  pub limit : card .head .purse .balance ≤ card .head .purse .parameters .maxbalance
 
 balanced : (st : Situation) (b : Ledger) → Agrees (st .memory) (st .session) b → Balanced st b
 balanced st b h = record { card = h .card; reads = h .reads; sum = h .sum; limit = facts (h .card .head) (h .proper .tests) .balance }

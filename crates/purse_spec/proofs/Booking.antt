@@ -18,7 +18,7 @@ use Rattle.octets.proofs.Conditions.{and-both}
 use Rattle.stores.specs.Stores.{leaves}
 use Rattle.card.specs.Card.{Card}
 use Rattle.card.specs.Proper.{Proper}
-use Rattle.card.specs.Reading.{readCard}
+use Rattle.memory.specs.Reading.{readCard}
 use Rattle.session.specs.declared.Pending.{Pending}
 use Rattle.session.specs.declared.Pending.the-variants.{Nothing, Update, Debiting, Crediting}
 use Rattle.session.specs.declared.Session.{Session}
@@ -58,7 +58,7 @@ pub record Agrees (m : List ℕ) (s : Session) (b : Ledger) : Type 0 where
   pub reads : readCard m ≡ some card
   pub proper : Proper card
   pub sized : Sized s
-  pub sum : card .head .state .balance + b .debits ≡ b .credits
+  pub sum : card .head .purse .balance + b .debits ≡ b .credits
   pub note : isNoted (s .pending) ≡ true → b .note ≡ some (noteFor (s .pending))
 
 -- ---- the ledger's sums
@@ -109,7 +109,7 @@ module _ (m : List ℕ) (s : Session) (b : Ledger) (h : Agrees m s b) (bytes ran
     H l = Agrees m′ (O .session) l
 
     -- the card that it leaves, with a ledger of its balance
-    after-holds : (l : Ledger) → cardAfter c s bytes random .head .state .balance + l .debits ≡ l .credits
+    after-holds : (l : Ledger) → cardAfter c s bytes random .head .purse .balance + l .debits ≡ l .credits
         → (isNoted (O .session .pending) ≡ true → l .note ≡ some (noteFor (O .session .pending))) → H l
     after-holds l q n =
         record {
@@ -139,7 +139,7 @@ module _ (m : List ℕ) (s : Session) (b : Ledger) (h : Agrees m s b) (bytes ran
         let moved = only-complete-moves c s bytes random .moved n z in
         let left = others-note-nothing c s bytes random (λ v q. let k : _≡_ {A = ℕ} 0 1 = cc in omega arith) in
         subst (λ (o : Option Note). H (addedTo o b)) (sym (h .note was))
-        (after-holds _ (added (s .pending) b (c .head .state .balance) (cardAfter c s bytes random .head .state .balance) was (h .sum) (moved .balance))
+        (after-holds _ (added (s .pending) b (c .head .purse .balance) (cardAfter c s bytes random .head .purse .balance) was (h .sum) (moved .balance))
         (λ k. absurd (false≢true (sym left ∙ k))))
 
     other-booked : (named bytes ≡ IsSigned InitializeTransaction → w ≡ 0x9000 → ⊥) → (named bytes ≡ IsSigned CompleteTransaction → w ≡ 0x9000 → ⊥) → H (noting none b)
@@ -189,10 +189,10 @@ module _ (st : Situation) (b : Ledger) (h : Agrees (st .memory) (st .session) b)
     o = respond (h .card) (st .session) bytes random
 
     abbrev left : List ℕ
-    left = leaves (outcomePlan (h .card) o (st .memory)) limit (st .memory)
+    left = leaves (outcomePlan o (st .memory)) limit (st .memory)
 
     -- cut: the number hasn't grown, and the ledger stays
-    cut-booked : Sound (h .card) (st .session) bytes random → limit < length (outcomePlan (h .card) o (st .memory)) → (g : Bool)
+    cut-booked : Sound (h .card) (st .session) bytes random → limit < length (outcomePlan o (st .memory)) → (g : Bool)
         → g ≡ hasGrown (numberOf (readCard (st .memory))) (numberOf (readCard left)) → Agrees left (st .session) (pick (isComplete bytes && g) (addedTo (b .note) b) b)
     cut-booked j l g q =
         let r = performed-cut (st .memory) (h .card) (st .session) bytes random (h .reads) j limit l in
@@ -210,7 +210,7 @@ module _ (st : Situation) (b : Ledger) (h : Agrees (st .memory) (st .session) b)
         })
 
     -- finished
-    done-booked : Sound (h .card) (st .session) bytes random → 32 ≤ length area → length (outcomePlan (h .card) o (st .memory)) ≤ limit
+    done-booked : Sound (h .card) (st .session) bytes random → 32 ≤ length area → length (outcomePlan o (st .memory)) ≤ limit
         → Agrees left (o .session) (fedCommand bytes (wordAt (paste area 0 (content (o .reply))) (length (content (o .reply)) - 2)) b)
     done-booked j a l =
         let y = reply-short (h .card) (st .session) bytes random j in
@@ -219,7 +219,7 @@ module _ (st : Situation) (b : Ledger) (h : Agrees (st .memory) (st .session) b)
         subst (λ (w : ℕ). Agrees left (o .session) (fedCommand bytes w b)) (sym e)
         (finished-booked (st .memory) (st .session) b h bytes random j left (performed-done (st .memory) (h .card) (st .session) bytes random (h .reads) j limit l))
 
-    performed-booked : 32 ≤ length area → Sound (h .card) (st .session) bytes random → BooksCall x st b (outcomeRun (h .card) o (st .memory) area limit)
+    performed-booked : 32 ≤ length area → Sound (h .card) (st .session) bytes random → BooksCall x st b (outcomeRun o (st .memory) area limit)
     unfolding performed fed statusWord
     performed-booked a j =
         by-limit (BooksCall x st b) limit _ _ _ (λ t g q. cut-booked j t g q) (λ t g q. done-booked j a t)

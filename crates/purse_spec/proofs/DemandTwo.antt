@@ -10,9 +10,9 @@ use lib.ListN.{length, drop}
 use Rattle.octets.specs.Bytes.{byteAt}
 use Rattle.octets.specs.Buffers.{content}
 use Rattle.card.specs.Card.{Card}
-use Rattle.card.specs.Reading.{readCard}
-use Rattle.card.proofs.Seen.{reads}
-use Rattle.card.proofs.Live.{sound}
+use Rattle.memory.specs.Reading.{readCard}
+use Rattle.memory.proofs.Seen.{reads}
+use Rattle.memory.proofs.Live.{sound}
 use Rattle.session.specs.declared.Session.{Session}
 use Rattle.commands_spec.specs.Order.{passes}
 use Rattle.commands_spec.specs.Respond.{respond, cardAfter}

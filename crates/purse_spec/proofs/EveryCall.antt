@@ -7,14 +7,14 @@ use lib.ListN.{length}
 use Rattle.octets.specs.Bytes.{AreBytes}
 use Rattle.octets.specs.Buffers.{content}
 use Rattle.stores.specs.Stores.{Store, leaves}
-use Rattle.card.specs.Changes.{installPlan}
-use Rattle.card.proofs.Bounds.{install-length, install-bytes}
+use Rattle.memory.specs.Changes.{installPlan}
+use Rattle.memory.proofs.Bounds.{install-length, install-bytes}
 use Rattle.session.specs.declared.Session.{Session}
 use Rattle.session.proofs.Sizes.{Sized, unselected-sized}
 use Rattle.commands_spec.specs.Respond.{respond}
 use Rattle.commands_spec.proofs.Sizes.{reply-short, session-sized}
 use Rattle.purse_spec.specs.Calls.{Run, refusal, performed}
-use Rattle.purse_spec.specs.Installation.{fixedOf, keysOf}
+use Rattle.purse_spec.specs.Installation.{dataFixed, dataAid, dataKeys}
 use Rattle.purse_spec.specs.Commands.{outcomePlan}
 use Rattle.purse_spec.specs.History.{Call, install, start, send, Situation, limitOf, limited, sessionFor, areaFor, OfBytes, run}
 use Rattle.purse_spec.proofs.Performed.{leaves-nothing}
@@ -38,13 +38,13 @@ pub every-call : (x : Call) (st : Situation) (P : (ℕ → Run) → Type 0) → 
 unfolding run limited sessionFor areaFor OfBytes
 every-call (install d limit) st P out rest =
     installation-runs (st .memory) P d out
-    (λ e t. rest (installPlan (fixedOf d) (keysOf d)) _ []
+    (λ e t. rest (installPlan (dataFixed d) (dataAid d) (dataKeys d)) _ []
     (λ k f.
     let i = installable d f t in
-    let n = install-length (fixedOf d) (keysOf d) (i .aid) (i .keys) in
+    let n = install-length (dataFixed d) (dataAid d) (dataKeys d) (i .bytes) (i .keys) in
     record {
       few = omega arith;
-      bytes = install-bytes (fixedOf d) (keysOf d) (st .memory) (k .memory) i;
+      bytes = install-bytes (dataFixed d) (dataAid d) (dataKeys d) (st .memory) (k .memory) i;
       sized = unselected-sized;
       short = omega arith;
     }))
@@ -56,7 +56,7 @@ every-call (send bytes random area limit) st P out rest =
     let m = st .memory in
     let s = st .session in
     command-runs m P s bytes random area out
-    (λ c t u e. rest (outcomePlan c (respond c s bytes random) m) _ (content (respond c s bytes random .reply))
+    (λ c t u e. rest (outcomePlan (respond c s bytes random) m) _ (content (respond c s bytes random .reply))
     (λ k f.
     let i = sound-of m c s bytes random (k .memory) e (k .session) (f .0) (f .1) u in
     record {

@@ -10,10 +10,13 @@ use lib.ListN.{length, drop, take, length-append, length-replicate, replicate-ap
 use lib.Seq.{take-at, take-all, drop-at, drop-drop}
 use Rattle.octets.specs.Bytes.{AreBytes, byteAt, part, field, zeros}
 use Rattle.octets.proofs.Parts.{field-part, part-between}
+use Rattle.card.specs.declared.head.Keys.{Keys}
+use Rattle.card.specs.Keys.{keysIn}
 use Rattle.card.specs.Card.{Card, freshHead, fresh}
-use Rattle.card.specs.Reading.{readCard}
+use Rattle.memory.specs.Reading.{readCard}
 use Rattle.card.proofs.AsInstalled.{AsInstalled, as-installed}
-use Rattle.purse_spec.specs.Installation.{fixedOf, keysOf}
+use Rattle.card.proofs.Bytes.{keys-joined}
+use Rattle.purse_spec.specs.Installation.{dataFixed, dataAid, dataKeys}
 use Rattle.purse_spec.specs.History.{install, Situation, run}
 use Rattle.purse_spec.specs.Reasons.{InRange}
 use Rattle.purse_spec.proofs.Installing.{in-range, aid-length, log-size, most-tries, data-length, installation-finishes, installation-done}
@@ -21,16 +24,15 @@ use Rattle.purse_spec.proofs.Installing.{in-range, aid-length, log-size
 -- a card of installation data as it starts
 pub record Fresh {d : List ℕ} (g : InRange d) (c : Card) : Type 0 where
   -- what the data say: AID, log size, tries, key set 3
-  pub aidlen : c .head .fixed .aidlen ≡ length (g .aid)
-  pub aid : c .head .fixed .aid ≡ g .aid ++ zeros (16 - length (g .aid))
+  pub aidlen : c .head .purse .aid .size ≡ length (g .aid)
+  pub aid : c .head .purse .aid .bytes ≡ g .aid ++ zeros (16 - length (g .aid))
   pub logsize : c .head .fixed .logsize ≡ g .size
   pub maxtries : c .head .fixed .maxtries ≡ g .tries
-  pub admin : c .head .shared .admin .defined ≡ true
   pub enc : c .head .shared .admin .enc ≡ g .enc
   pub mac : c .head .shared .admin .mac ≡ g .mac
   pub dek : c .head .shared .admin .dek ≡ g .dek
   -- and all else "undefined and zero, tries full"
-  pub starts : AsInstalled (c .head .fixed) (c .head .shared .admin) c
+  pub starts : AsInstalled (c .head .fixed) (c .head .purse .aid) (c .head .shared .admin) c
 
 -- ---- the data
 
@@ -57,36 +59,34 @@ module _ (d : List ℕ) (g : InRange d) where
       let n = aid-length d g in
       ap (drop (byteAt d 0 + 3)) e ∙ drop-at front (g .enc ++ (g .mac ++ g .dek)) (byteAt d 0 + 3) (omega (arith, length-append (length (g .aid) ∷ g .aid) (g .size ∷ g .tries ∷ [])))
 
-  mac-there : drop (byteAt d 0 + 3 + 16) d ≡ g .mac ++ g .dek
-  mac-there = sym (drop-drop 16 (byteAt d 0 + 3) d) ∙ ap (drop 16) keys-there ∙ drop-at (g .enc) (g .mac ++ g .dek) 16 (g .keys .0)
-
-  dek-there : drop (byteAt d 0 + 3 + 32) d ≡ g .dek
-  dek-there =
-      let e : byteAt d 0 + 3 + 32 ≡ byteAt d 0 + 3 + 16 + 16 = omega arith in
-      ap (λ (n : ℕ). drop n d) e ∙ sym (drop-drop 16 (byteAt d 0 + 3 + 16) d) ∙ ap (drop 16) mac-there ∙ drop-at (g .mac) (g .dek) 16 (g .keys .1)
-
   long : byteAt d 0 + 51 ≡ length d
   long = let n = aid-length d g in let l = data-length d g in omega arith
 
+  keys-are : dataKeys d ≡ record { enc = g .enc; mac = g .mac; dek = g .dek }
+  unfolding dataKeys
+  keys-are =
+      let l = long in
+      ap keysIn
+      (field-part d (byteAt d 0 + 3) 48 (omega arith) ∙ ap (take 48) keys-there
+      ∙ take-all 48 (g .enc ++ (g .mac ++ g .dek)) (let k = g .keys in simp length-append (omega arith)))
+      ∙ keys-joined (g .enc) (g .mac) (g .dek) (g .keys .0) (g .keys .1) (g .keys .2)
+
   -- the fresh card of the data
-  fresh-fields : Fresh g (fresh (fixedOf d) (keysOf d))
-  unfolding fresh freshHead fixedOf keysOf
+  fresh-fields : Fresh g (fresh (dataFixed d) (dataAid d) (dataKeys d))
+  unfolding fresh freshHead dataFixed dataAid
   fresh-fields =
       let n = aid-length d g in
-      let l = long in
       let t : byteAt d (byteAt d 0 + 2) ≡ g .tries = rw n (most-tries d g) in
       let s : byteAt d (byteAt d 0 + 1) ≡ g .size = rw n (log-size d g) in
-      let at = byteAt d 0 + 3 in
       record {
         aidlen = n;
         aid = ap (λ (x : List ℕ). field x 0 16) aid-there ∙ padded (g .aid) (g .aids .1);
         logsize = s;
         maxtries = t;
-        admin = refl;
-        enc = field-part d at 16 (omega arith) ∙ ap (take 16) keys-there ∙ take-at (g .enc) (g .mac ++ g .dek) 16 (g .keys .0);
-        mac = field-part d (at + 16) 16 (omega arith) ∙ ap (take 16) mac-there ∙ take-at (g .mac) (g .dek) 16 (g .keys .1);
-        dek = field-part d (at + 32) 16 (omega arith) ∙ ap (take 16) dek-there ∙ take-all 16 (g .dek) (let k = g .keys .2 in omega arith);
-        starts = as-installed (fixedOf d) (keysOf d);
+        enc = ap (λ (k : Keys). k .enc) keys-are;
+        mac = ap (λ (k : Keys). k .mac) keys-are;
+        dek = ap (λ (k : Keys). k .dek) keys-are;
+        starts = as-installed (dataFixed d) (dataAid d) (dataKeys d);
       }
 
 -- ---- the law
@@ -97,4 +97,4 @@ pub installs : (st : Situation) (d : List ℕ) (limit : ℕ) → (given : AreByt
 unfolding run
 installs st d limit f g e k =
     let z = installation-finishes (st .memory) d limit f e (in-range d g) (omega arith) in
-    (z, fresh (fixedOf d) (keysOf d), installation-done (st .memory) d limit f z, fresh-fields d g)
+    (z, fresh (dataFixed d) (dataAid d) (dataKeys d), installation-done (st .memory) d limit f z, fresh-fields d g)

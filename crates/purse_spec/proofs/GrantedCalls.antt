@@ -7,7 +7,7 @@ use Prim.Native.Nat.{ℕ, _+_, _-_, _*_, _≤_}
 use lib.ListN.{length}
 use Rattle.octets.specs.Bytes.{byteAt}
 use Rattle.card.specs.Card.{Card}
-use Rattle.card.specs.Reading.{readCard}
+use Rattle.memory.specs.Reading.{readCard}
 use Rattle.commands_spec.specs.Respond.{respond}
 use Rattle.purse_spec.specs.Calls.{Run}
 use Rattle.purse_spec.specs.History.{send, Situation, OfBytes, run}

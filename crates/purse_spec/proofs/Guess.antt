@@ -17,18 +17,19 @@ use Rattle.stores.specs.Stores.{Store, applied, leaves}
 use Rattle.stores.proofs.Limits.{answers-done}
 use Rattle.stores.proofs.Sequence.{leaves-first, leaves-second}
 use Rattle.card.specs.Card.{Card}
-use Rattle.card.specs.Layout.{memorySize}
-use Rattle.card.specs.Reading.{readCard}
-use Rattle.card.specs.Changes.{Change, state, changed, plan}
-use Rattle.card.proofs.Done.{change-done}
+use Rattle.memory.specs.Layout.{memorySize}
+use Rattle.memory.specs.Reading.{readCard}
+use Rattle.card.specs.declared.change.Change.{Change}
+use Rattle.card.specs.Changes.{hotChange, headAfter, logAfter, changed, after}
+use Rattle.memory.specs.Changes.{plan}
+use Rattle.memory.proofs.Done.{change-done}
 use Rattle.session.specs.declared.Session.{Session}
 use Rattle.session.specs.Transitions.{unselected}
 use Rattle.commands_spec.specs.declared.outcome.Outcome.{Outcome}
-use Rattle.commands_spec.specs.Outcomes.{done, tried, changesOf, after}
-use Rattle.commands_spec.specs.Updates.{withTries}
+use Rattle.commands_spec.specs.Outcomes.{done, tried, changesOf, commitsOf}
+use Rattle.card.specs.Updates.{withState, withTries, withBalance, withPurse}
 use Rattle.commands_spec.specs.VerifyPin.{judged}
 use Rattle.commands_spec.specs.Respond.{respond, cardAfter}
-use Rattle.commands_spec.proofs.Ways.{changes}
 use Rattle.commands_spec.proofs.PinTry.{pin-pair}
 use Rattle.commands_spec.proofs.Sizes.{Sound}
 use Rattle.commands_spec.proofs.Proper.{each-proper}
@@ -61,15 +62,16 @@ data Tried (c : Card) (s : Session) (o u : Outcome) : Type 0 where
   alike : o ≡ u → Tried c s o u
   judges : (x y : Bool) → 0 < c .head .state .tries → o ≡ judged x (c .head) s → u ≡ judged y (c .head) s → Tried c s o u
 
--- the changes behind the first
-abbrev rest : Card → Bool → List Change
-rest c right = pick right (state (withTries (c .head .fixed .maxtries) (c .head) .state) ∷ []) []
-
+-- the first change: a try is spent
 abbrev first : Card → Change
-first c = state (tried (c .head .state))
+first c = hotChange (withState (tried (c .head .state)) (c .head))
 
-judged-changes : (c : Card) (s : Session) (right : Bool) → changes c (judged right (c .head) s) ≡ first c ∷ rest c right
-unfolding judged done changesOf
+-- those behind it
+abbrev rest : Card → Bool → List Change
+rest c right = pick right (hotChange (withTries (c .head .fixed .maxtries) (c .head)) ∷ []) []
+
+judged-changes : (c : Card) (s : Session) (right : Bool) → commitsOf (judged right (c .head) s) ≡ first c ∷ rest c right
+unfolding judged done commitsOf changesOf withState withTries
 judged-changes c s true = refl
 judged-changes c s false = refl
 
@@ -85,32 +87,32 @@ module _ (m : List ℕ) (c : Card) (e : readCard m ≡ some c) (k : 0 < c .head 
   m₁ = applied (plan (first c) m) m
 
   -- the stores of an outcome that judges a PIN
-  planned : (o : Outcome) (xs : List Change) → changes c o ≡ first c ∷ xs → outcomePlan c o m ≡ plan (first c) m ++ plans xs m₁
+  planned : (o : Outcome) (xs : List Change) → commitsOf o ≡ first c ∷ xs → outcomePlan o m ≡ plan (first c) m ++ plans xs m₁
   unfolding outcomePlan plans
   planned o xs h = rw h
 
   -- cut in the first change, whatever comes behind
-  cut-first : (o : Outcome) (xs : List Change) → changes c o ≡ first c ∷ xs → limit < p
-      → outcomeRun c o m area limit ≡ record { answer = 7; count = limit; session = unselected; memory = leaves (plan (first c) m) limit m; length = 0; response = area }
+  cut-first : (o : Outcome) (xs : List Change) → commitsOf o ≡ first c ∷ xs → limit < p
+      → outcomeRun o m area limit ≡ record { answer = 7; count = limit; session = unselected; memory = leaves (plan (first c) m) limit m; length = 0; response = area }
   unfolding performed
   cut-first o xs h l =
       let q = planned o xs h in
-      let n : limit < length (outcomePlan c o m) = rw q (omega (arith, length-append (plan (first c) m) (plans xs m₁))) in
-      let z : leaves (outcomePlan c o m) limit m ≡ leaves (plan (first c) m) limit m =
+      let n : limit < length (outcomePlan o m) = rw q (omega (arith, length-append (plan (first c) m) (plans xs m₁))) in
+      let z : leaves (outcomePlan o m) limit m ≡ leaves (plan (first c) m) limit m =
       ap (λ (y : List Store). leaves y limit m) q ∙ leaves-first (plan (first c) m) (plans xs m₁) limit m (omega arith)
       in
-      rw (lt-ltb limit (length (outcomePlan c o m)) n, z)
+      rw (lt-ltb limit (length (outcomePlan o m)) n, z)
 
   abbrev d : Card
   d = changed (first c) c
 
   spent-try : Fewer c d
-  unfolding changed tried
+  unfolding changed headAfter logAfter withState withBalance withPurse tried
   spent-try = record { is = refl; tries = omega arith }
 
   -- cut past the first change
-  cut-past : (o : Outcome) (xs : List Change) → changes c o ≡ first c ∷ xs → length xs ≤ 1 → EachProper c (first c ∷ xs) → p ≤ limit
-      → limit < length (outcomePlan c o m) → readCard (leaves (outcomePlan c o m) limit m) ≡ some d
+  cut-past : (o : Outcome) (xs : List Change) → commitsOf o ≡ first c ∷ xs → length xs ≤ 1 → EachProper c (first c ∷ xs) → p ≤ limit
+      → limit < length (outcomePlan o m) → readCard (leaves (outcomePlan o m) limit m) ≡ some d
   unfolding after
   cut-past o xs h n a l j =
       let q = planned o xs h in
@@ -129,24 +131,24 @@ module _ (m : List ℕ) (c : Card) (e : readCard m ≡ some c) (k : 0 < c .head 
 module _ (m : List ℕ) (c : Card) (s : Session) (a b random area : List ℕ) (limit : ℕ) (e : readCard m ≡ some c)
     (i : Sound c s a random) (j : Sound c s b random) (room : leastArea ≤ length area) where
   abbrev r : List ℕ → Run
-  r bytes = outcomeRun c (respond c s bytes random) m area limit
+  r bytes = outcomeRun (respond c s bytes random) m area limit
 
   -- the changes of a command whose PIN is judged
-  judged-is : (bytes : List ℕ) (right : Bool) → respond c s bytes random ≡ judged right (c .head) s → changes c (respond c s bytes random) ≡ first c ∷ rest c right
-  judged-is bytes right q = ap (changes c) q ∙ judged-changes c s right
+  judged-is : (bytes : List ℕ) (right : Bool) → respond c s bytes random ≡ judged right (c .head) s → commitsOf (respond c s bytes random) ≡ first c ∷ rest c right
+  judged-is bytes right q = ap commitsOf q ∙ judged-changes c s right
 
   module _ (bytes : List ℕ) (y : Sound c s bytes random) (k : 0 < c .head .state .tries) where
     abbrev O : Outcome
     O = respond c s bytes random
 
-    abbrev f : Follows (outcomePlan c O m) limit m (r bytes)
+    abbrev f : Follows (outcomePlan O m) limit m (r bytes)
     f = performed-follows _ limit m _ _ area
 
     -- a finished run: a wrong PIN has cost a try, a right one says 9000
-    finished-spent : (right : Bool) → O ≡ judged right (c .head) s → length (outcomePlan c O m) ≤ limit → Spent c (r bytes)
+    finished-spent : (right : Bool) → O ≡ judged right (c .head) s → length (outcomePlan O m) ≤ limit → Spent c (r bytes)
     unfolding judged done cardAfter after
     finished-spent true q l =
-        let z = f .answer ∙ answers-done (outcomePlan c O m) limit l in
+        let z = f .answer ∙ answers-done (outcomePlan O m) limit l in
         accepted z (performed-responds m c s bytes random area limit room y z .status ∙ ap (λ (o : Outcome). o .status) q)
     finished-spent false q l =
         one-fewer (changed (first c) c)
@@ -156,7 +158,7 @@ module _ (m : List ℕ) (c : Card) (s : Session) (a b random area : List ℕ) (l
     judged-spent : (right : Bool) → O ≡ judged right (c .head) s → length (plan (first c) m) ≤ limit → Spent c (r bytes)
     judged-spent right q l =
         let h = judged-is bytes right q in
-        elim (decLe (length (outcomePlan c O m)) limit) [
+        elim (decLe (length (outcomePlan O m)) limit) [
           | yes g ↦ finished-spent right q g
           | no g ↦
               one-fewer (changed (first c) c)
@@ -166,7 +168,7 @@ module _ (m : List ℕ) (c : Card) (s : Session) (a b random area : List ℕ) (l
         ]
 
   guessed : Tried c s (respond c s a random) (respond c s b random) → Guess m (r a) (r b)
-  guessed (alike q) = same (ap (λ (o : Outcome). outcomeRun c o m area limit) q)
+  guessed (alike q) = same (ap (λ (o : Outcome). outcomeRun o m area limit) q)
   guessed (judges x y k q u) =
       elim (decLe (length (plan (first c) m)) limit) [
         | yes l ↦ spent c e (judged-spent a i k x q l) (judged-spent b j k y u l)

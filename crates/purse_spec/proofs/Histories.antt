@@ -7,10 +7,10 @@ use mathlib.Core.Path.{_≡_, refl, sym, ap, _∙_, subst}
 use Prim.Native.Nat.{ℕ, zero, suc, _+_, _-_, _≤_, _<_}
 use native.Mathlib.Omega.{arith}
 use borrow.Author.Tests.{eq-eqb, leb-true, ltb-true}
-use lib.Dec.{ltb, eqb}
+use lib.Dec.{ltb, leb, eqb}
 use lib.ListN.{length, getD, take, drop, replicate}
 use lib.Seq.{length-take-le, take-length}
-use Rattle.octets.specs.Bytes.{AreBytes, byteAt, zeros}
+use Rattle.octets.specs.Bytes.{AreBytes, Octets, byteAt, zeros, allZero}
 use Rattle.octets.specs.Choice.{pick}
 use Rattle.octets.specs.Words.{word, wordAt}
 use Rattle.octets.proofs.Conditions.{each, and-both}
@@ -19,12 +19,13 @@ use Rattle.octets.proofs.Ranges.{none-bytes, cons-bytes, append-bytes, zeros-by
 use Rattle.des_spec.specs.Des.{encipher, decipher}
 use Rattle.des_spec.specs.Modes.{ecbText, signature}
 use Rattle.des_spec.proofs.Texts.{length-ecbText, bytes-ecbText}
+use Rattle.card.specs.declared.head.Keys.{Keys}
 use Rattle.card.specs.declared.head.KeySet.{KeySet}
 use Rattle.card.specs.declared.head.Parameters.{Parameters}
 use Rattle.card.specs.Card.{Card}
 use Rattle.card.specs.Pin.{paired, blockOf, Digits}
-use Rattle.card.specs.Proper.{fixedTests, Bytes, Keys, Proper}
-use Rattle.card.proofs.Cards.{read-proper}
+use Rattle.card.specs.Proper.{fixedTests, aidOk, SizedKeys, Proper}
+use Rattle.memory.proofs.Cards.{read-proper}
 use Rattle.card.proofs.Pins.{block-bytes}
 use Rattle.session.specs.declared.Set.{Set}
 use Rattle.session.specs.declared.Set.the-variants.{Debit, Credit, Admin}
@@ -56,9 +57,10 @@ use Rattle.commands_spec.proofs.PutsKey.{key-granted, key-set}
 use Rattle.commands_spec.proofs.Sessions.{selectedAfter, touches, ends-pending}
 use Rattle.commands_spec.proofs.Queries.{select-granted}
 use Rattle.commands_spec.proofs.Facts.{facts}
-use Rattle.commands_spec.proofs.Readers.{isReader, readers-change-nothing}
+use Rattle.commands_spec.proofs.Ways.{isReader}
+use Rattle.commands_spec.proofs.Readers.{readers-change-nothing}
 use Rattle.commands_spec.proofs.Sending.{InChannel}
-use Rattle.commands_spec.specs.Outcomes.{after}
+use Rattle.card.specs.Changes.{after}
 use Rattle.card.specs.declared.head.State.{State}
 use Rattle.purse_spec.specs.History.{install, Situation, OfBytes, AllOfBytes, run, isInstall, isStart, next, afterCalls, Admissible, IsHistory}
 use Rattle.purse_spec.specs.Reasons.{InRange}
@@ -146,7 +148,7 @@ record Stage (personalized debit credit : Bool) (c : Card) : Type 0 where
   personal : c .head .purse .parameters .personalized ≡ personalized
   first : c .head .purse .debit .defined ≡ debit
   second : c .head .purse .credit .defined ≡ credit
-  balance : c .head .state .balance ≡ 0
+  balance : c .head .purse .balance ≡ 0
   number : c .head .state .number ≡ 0
 
 -- ---- one command more
@@ -214,15 +216,16 @@ begun first t e =
 -- ---- SELECT, INITIALIZE UPDATE, EXTERNAL AUTHENTICATE
 
 -- the AID of a card has 5 to 16 bytes
-aid-size : (c : Card) → Proper c → let l = take (c .head .fixed .aidlen) (c .head .fixed .aid) in (0 < length l) × (length l < 256) × AreBytes l
-unfolding fixedTests
+aid-size : (c : Card) → Proper c → let l = take (c .head .purse .aid .size) (c .head .purse .aid .bytes) in (0 < length l) × (length l < 256) × AreBytes l
+unfolding aidOk
 aid-size c p =
-    let f = each (fixedTests (c .head .fixed)) (facts (c .head) (p .tests) .fixed) in
-    let a = leb-true 5 (c .head .fixed .aidlen) (f .0) in
-    let b = leb-true (c .head .fixed .aidlen) 16 (f .1 .0) in
-    let z = p .sized .aid .size in
-    let n : length (take (c .head .fixed .aidlen) (c .head .fixed .aid)) ≡ c .head .fixed .aidlen = length-take-le (c .head .fixed .aidlen) (c .head .fixed .aid) (omega arith) in
-    (omega arith, omega arith, take-bytes (c .head .fixed .aidlen) (c .head .fixed .aid) (p .sized .aid .each))
+    let i = c .head .purse .aid in
+    let f = each (leb 5 (i .size) ∷ leb (i .size) 16 ∷ allZero (drop (i .size) (i .bytes)) ∷ []) (facts (c .head) (p .tests) .aid) in
+    let a = leb-true 5 (i .size) (f .0) in
+    let b = leb-true (i .size) 16 (f .1 .0) in
+    let z = p .sized .purse .aid .size in
+    let n : length (take (i .size) (i .bytes)) ≡ i .size = length-take-le (i .size) (i .bytes) (omega arith) in
+    (omega arith, omega arith, take-bytes (i .size) (i .bytes) (p .sized .purse .aid .each))
 
 -- these three change nothing on the card, nor does INITIALIZE TRANSACTION
 plain-readers : (p1 p2 : ℕ) (body : List ℕ) → (isReader (named (plainCommand 0x00 0xA4 p1 p2 body [])) ≡ true) × (isReader (named (plainCommand 0x80 0x50 p1 p2 body [])) ≡ true)
@@ -237,7 +240,7 @@ signed-readers key from p1 p2 body = (refl, refl)
 module _ {first : Situation} {p d k : Bool} where
   chosen : Some first (λ c s. Stage p d k c) → Some first (λ c s. Stage p d k c × (s .selected ≡ true))
   chosen w =
-      step (λ c s. Stage p d k c × (s .selected ≡ true)) (λ c s. plainCommand 0x00 0xA4 0x04 0x00 (take (c .head .fixed .aidlen) (c .head .fixed .aid)) []) w
+      step (λ c s. Stage p d k c × (s .selected ≡ true)) (λ c s. plainCommand 0x00 0xA4 0x04 0x00 (take (c .head .purse .aid .size) (c .head .purse .aid .bytes)) []) w
       (λ c s h q z. let a = aid-size c q in plain-bytes 0x00 0xA4 0x04 0x00 _ (omega arith) (omega arith) (omega arith) (omega arith) (a .1) (a .2))
       (λ c s h q z y. (
         subst (Stage p d k) (sym (reads-only c s _ (zeros 8) (plain-readers _ _ _ .0))) h,
@@ -249,7 +252,7 @@ module _ {first : Situation} {p d k : Bool} where
       step (λ c s. Stage p d k c × (s .selected ≡ true) × (s .pending ≡ Update Admin)) (λ c s. plainCommand 0x80 0x50 0x03 0x00 (zeros 8) []) w
       (λ c s h q z. plain-bytes 0x80 0x50 0x03 0x00 (zeros 8) (omega arith) (omega arith) (omega arith) (omega arith) (omega arith) (zeros-bytes 8))
       (λ c s h q z y.
-      let u = update-granted c s 0x03 Admin (c .head .shared .admin) (zeros 8) (zeros 8) [] (third refl) (facts (c .head) (q .tests) .admin) (h .1) refl refl (omega arith) .session in (
+      let u = update-granted c s 0x03 Admin (record { defined = true; keys = c .head .shared .admin }) (zeros 8) (zeros 8) [] (third refl) refl (h .1) refl refl (omega arith) .session in (
         subst (Stage p d k) (sym (reads-only c s _ (zeros 8) (plain-readers _ _ _ .1))) (h .0),
         ap (λ (t : Session). t .selected) u ∙ h .1,
         ap (λ (t : Session). t .pending) u,
@@ -284,14 +287,14 @@ still-open c s command random g l n w o z =
     let b : touches (named command) (respond c s command random .status) ≡ false = rw (n, w) in
     record { selected = a ∙ o .selected; level = e .channel b .level ∙ o .level; chain = z .channel .cmac .size }
 
--- the key set of 01 bytes
-abbrev keys : KeySet
-keys = record { defined = true; enc = ones 16; mac = ones 16; dek = ones 16 }
+-- keys of 01 bytes
+abbrev keys : Keys
+keys = record { enc = ones 16; mac = ones 16; dek = ones 16 }
 
-keys-sized : Keys keys
+keys-sized : SizedKeys keys
 unfolding below
 keys-sized =
-    let b : Bytes 16 (ones 16) = record { size = refl; each = tested (ones 16) refl } in
+    let b : Octets 16 (ones 16) = record { size = refl; each = tested (ones 16) refl } in
     record { enc = b; mac = b; dek = b }
 
 -- the three keys as PUT KEY carries them
@@ -316,19 +319,19 @@ keyed {first} {p} {d} {k} n set old below-256 m w =
     step (λ c s. Stage p (pick (eqb n 0x01) true d) (pick (eqb n 0x02) true k) c × InChannel s (Rmac Admin)) (λ c s. signedCommand s 0x84 0xD8 0x00 n (keysSent c) []) w
     (λ c s h q z. put-key-bytes c s n below-256 z)
     (λ c s h q z y.
-    let g = key-granted c s 0x11 (Rmac Admin) n set (old c) keys [] (zeros 8) (omega arith) (h .1) with-rmac (m c) refl keys-sized in
-    let r = key-set c s 0x11 (Rmac Admin) n set (old c) keys [] (zeros 8) (omega arith) (h .1) with-rmac (m c) refl keys-sized in (
+    let g = key-granted c s 0x11 (Rmac Admin) n set (old c) keys [] (zeros 8) (omega arith) (h .1) with-rmac (m c) keys-sized in
+    let r = key-set c s 0x11 (Rmac Admin) n set (old c) keys [] (zeros 8) (omega arith) (h .1) with-rmac (m c) keys-sized in (
       record {
         personal = ap (λ (x : Parameters). x .personalized) (r .parameters) ∙ h .0 .personal;
         first = ap (λ (x : KeySet). x .defined) (r .first) ∙ defined-if (eqb n 0x01) (c .head .purse .debit) ∙ ap (pick (eqb n 0x01) true) (h .0 .first);
         second = ap (λ (x : KeySet). x .defined) (r .second) ∙ defined-if (eqb n 0x02) (c .head .purse .credit) ∙ ap (pick (eqb n 0x02) true) (h .0 .second);
-        balance = ap (λ (x : State). x .balance) (r .state) ∙ h .0 .balance;
+        balance = r .balance ∙ h .0 .balance;
         number = ap (λ (x : State). x .number) (r .state) ∙ h .0 .number;
       },
       still-open c s _ (zeros 8) PutKey (Rmac Admin) (put-key-named s n (keysSent c)) g (h .1) y,
     ))
   where
-    defined-if : (b : Bool) (x : KeySet) → pick b keys x .defined ≡ pick b true (x .defined)
+    defined-if : (b : Bool) (x : KeySet) → pick b (record { defined = true; keys = keys }) x .defined ≡ pick b true (x .defined)
     defined-if true x = refl
     defined-if false x = refl
 
@@ -357,7 +360,7 @@ record Personalized (c : Card) : Type 0 where
   currency : c .head .purse .parameters .currency ≡ 0x0978
   maxbalance : c .head .purse .parameters .maxbalance ≡ 1000
   maxnumber : c .head .shared .maxnumber ≡ 100
-  balance : c .head .state .balance ≡ 0
+  balance : c .head .purse .balance ≡ 0
   number : c .head .state .number ≡ 0
 
 -- a number is told by its two bytes
@@ -514,7 +517,7 @@ pinned w =
     let g = change-granted c s 0x11 (Rmac Admin) [] (zeros 8) (omega arith) (h .1) with-rmac digits four-digits in
     let e = change-sets c s 0x11 (Rmac Admin) [] (zeros 8) (omega arith) (h .1) with-rmac digits four-digits in
     let f = each (fixedTests (c .head .fixed)) (facts (c .head) (q .tests) .fixed) in
-    let n = leb-true 3 (c .head .fixed .maxtries) (f .1 .1 .1 .1 .1 .0) in (
+    let n = leb-true 3 (c .head .fixed .maxtries) (f .1 .1 .0) in (
       subst Pinned (sym e) (record { personal = h .0 .personal; defined = refl; block = refl; left = omega arith }),
       still-open c s _ (zeros 8) PinChange (Rmac Admin) (pin-named s _) g (h .1) y,
     ))

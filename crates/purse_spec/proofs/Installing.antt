@@ -16,20 +16,22 @@ use Rattle.octets.specs.Bytes.{AreBytes, byteAt, part, field, allZero}
 use Rattle.octets.proofs.Conditions.{all-true, and-both}
 use Rattle.octets.proofs.Equality.{bytes-zero}
 use Rattle.octets.proofs.Parts.{byte-past, length-part, length-field, field-at}
-use Rattle.octets.proofs.Ranges.{part-bytes}
+use Rattle.octets.proofs.Octets.{field-octets}
+use Rattle.octets.proofs.Ranges.{part-bytes, field-bytes}
 use Rattle.stores.specs.Stores.{Store, leaves}
 use Rattle.stores.proofs.Limits.{answers-done, limit-enough}
 use Rattle.card.specs.Card.{fresh}
-use Rattle.card.specs.Proper.{fixedTests}
-use Rattle.card.specs.Layout.{memorySize}
-use Rattle.card.specs.Reading.{readCard}
-use Rattle.card.specs.Changes.{installPlan, installCount}
-use Rattle.card.proofs.Bounds.{install-length}
-use Rattle.card.proofs.Installation.{Installable, install-cut, install-done}
+use Rattle.card.specs.Proper.{fixedTests, aidOk}
+use Rattle.memory.specs.Layout.{memorySize}
+use Rattle.memory.specs.Reading.{readCard}
+use Rattle.memory.specs.Changes.{installPlan, installCount}
+use Rattle.memory.proofs.Bounds.{install-length}
+use Rattle.card.proofs.Bytes.{keys-sized}
+use Rattle.card.proofs.FreshCard.{Installable}
+use Rattle.memory.proofs.Installation.{install-cut, install-done}
 use Rattle.session.specs.Transitions.{unselected}
-use Rattle.commands_spec.proofs.Arrays.{field-bytes-of}
 use Rattle.purse_spec.specs.Calls.{Run, refusal, performed}
-use Rattle.purse_spec.specs.Installation.{dataOk, fixedOf, keysOf, installation}
+use Rattle.purse_spec.specs.Installation.{dataOk, dataFixed, dataAid, dataKeys, installation}
 use Rattle.purse_spec.specs.Reasons.{InRange}
 use Rattle.purse_spec.proofs.Performed.{by-limit, performed-follows}
 use Rattle.purse_spec.proofs.Runs.{installation-holds, installation-runs}
@@ -177,32 +179,32 @@ aid-ends d n h k =
     getD-drop n f i 0 ∙ field-at (part d 1 n) 0 16 (n + i) j ∙ byte-past (part d 1 n) (0 + (n + i)) (omega arith))
 
 -- what is not refused can be installed
-pub installable : (d : List ℕ) → AreBytes d → dataOk d ≡ true → Installable (fixedOf d) (keysOf d)
-unfolding fixedOf keysOf fixedTests
+pub installable : (d : List ℕ) → AreBytes d → dataOk d ≡ true → Installable (dataFixed d) (dataAid d) (dataKeys d)
+unfolding dataFixed dataAid dataKeys fixedTests aidOk
 installable d f e =
     let n = byteAt d 0 in
     let r = ranges d .0 e in
     record {
-      aid = field-bytes-of (part d 1 n) 0 16 (part-bytes d 1 n f);
-      keys = record { enc = field-bytes-of d _ 16 f; mac = field-bytes-of d _ 16 f; dek = field-bytes-of d _ 16 f };
-      defined = refl;
+      bytes = field-octets (part d 1 n) 0 16 (part-bytes d 1 n f);
+      keys = keys-sized _ (field-bytes d _ 48 f);
+      named =
+          all-true (leb 5 n ∷ leb n 16 ∷ allZero (drop n (field (part d 1 n) 0 16)) ∷ [])
+          (le-leb _ _ (r .least), (le-leb _ _ (r .most), (aid-ends d n (r .most) (let l = r .long in omega arith), tt)));
       tests =
-          all-true (fixedTests (fixedOf d)) (
-            le-leb _ _ (r .least),
-            (le-leb _ _ (r .most), (aid-ends d n (r .most) (let l = r .long in omega arith), (le-leb _ _ (r .some-log), (le-leb _ _ (r .most-log), (le-leb _ _ (r .some-tries), (le-leb _ _ (r .most-tries), tt)))))),
-          );
+          all-true (fixedTests (dataFixed d))
+          (le-leb _ _ (r .some-log), (le-leb _ _ (r .most-log), (le-leb _ _ (r .some-tries), (le-leb _ _ (r .most-tries), tt))));
     }
 
 -- ---- its runs
 
 abbrev givenPlan : List ℕ → List Store
-givenPlan d = installPlan (fixedOf d) (keysOf d)
+givenPlan d = installPlan (dataFixed d) (dataAid d) (dataKeys d)
 
 -- past its refusals and not cut, it leaves the fresh card
 pub installed-reads : (m d : List ℕ) (limit : ℕ) → AreBytes d → length m ≡ memorySize → dataOk d ≡ true → length (givenPlan d) ≤ limit
-    → readCard (leaves (givenPlan d) limit m) ≡ some (fresh (fixedOf d) (keysOf d))
+    → readCard (leaves (givenPlan d) limit m) ≡ some (fresh (dataFixed d) (dataAid d) (dataKeys d))
 installed-reads m d limit f e t n =
-    ap readCard (limit-enough (givenPlan d) limit m n) ∙ install-done (fixedOf d) (keysOf d) (installable d f t) m e
+    ap readCard (limit-enough (givenPlan d) limit m n) ∙ install-done (dataFixed d) (dataAid d) (dataKeys d) (installable d f t) m e
 
 -- what isn't refused finishes from limit 231 on, whatever memory held
 pub installation-finishes : (m d : List ℕ) (limit : ℕ) → AreBytes d → length m ≡ memorySize → dataOk d ≡ true → installCount ≤ limit
@@ -211,17 +213,17 @@ installation-finishes m d limit f l t k =
     installation-holds m (λ (r : ℕ → Run). r limit .answer ≡ 0) d (λ e. absurd (e l)) (λ e u. absurd (false≢true (sym u ∙ t)))
     (λ e u.
     let i = installable d f t in
-    let n = install-length (fixedOf d) (keysOf d) (i .aid) (i .keys) in
+    let n = install-length (dataFixed d) (dataAid d) (dataKeys d) (i .bytes) (i .keys) in
     performed-follows (givenPlan d) limit m unselected [] [] .answer ∙ answers-done (givenPlan d) limit (omega arith))
 
 -- "a finished one leaves the fresh card of its data"
 pub installation-done : (m d : List ℕ) (limit : ℕ) → (given : AreBytes d) → (finished : installation m d limit .answer ≡ 0)
-    → readCard (installation m d limit .memory) ≡ some (fresh (fixedOf d) (keysOf d))
+    → readCard (installation m d limit .memory) ≡ some (fresh (dataFixed d) (dataAid d) (dataKeys d))
 unfolding refusal performed
 installation-done m d limit f =
-    installation-runs m (λ (r : ℕ → Run). r limit .answer ≡ 0 → readCard (r limit .memory) ≡ some (fresh (fixedOf d) (keysOf d))) d
+    installation-runs m (λ (r : ℕ → Run). r limit .answer ≡ 0 → readCard (r limit .memory) ≡ some (fresh (dataFixed d) (dataAid d) (dataKeys d))) d
     (λ n k l z. absurd (omega arith))
-    (λ e t. by-limit (λ (r : Run). r .answer ≡ 0 → readCard (r .memory) ≡ some (fresh (fixedOf d) (keysOf d))) limit _ _ _
+    (λ e t. by-limit (λ (r : Run). r .answer ≡ 0 → readCard (r .memory) ≡ some (fresh (dataFixed d) (dataAid d) (dataKeys d))) limit _ _ _
     (λ k z. absurd (omega arith)) (λ k z. installed-reads m d limit f e t k))
 
 -- a cut one reads as before or as no card
@@ -232,4 +234,4 @@ installation-cut m d limit =
     installation-runs m (λ (r : ℕ → Run). r limit .answer ≡ 7 → (readCard (r limit .memory) ≡ readCard m) ⊎ (readCard (r limit .memory) ≡ none)) d
     (λ n k l z. absurd (omega arith))
     (λ e t. by-limit (λ (r : Run). r .answer ≡ 7 → (readCard (r .memory) ≡ readCard m) ⊎ (readCard (r .memory) ≡ none)) limit _ _ _
-    (λ k z. install-cut (fixedOf d) (keysOf d) m e limit k) (λ k z. absurd (omega arith)))
+    (λ k z. install-cut (dataFixed d) (dataAid d) (dataKeys d) m e limit k) (λ k z. absurd (omega arith)))

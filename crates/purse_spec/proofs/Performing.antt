@@ -13,20 +13,23 @@ use Rattle.stores.specs.Stores.{Store, leaves}
 use Rattle.stores.proofs.Limits.{limit-enough}
 use Rattle.card.specs.declared.head.State.{State}
 use Rattle.card.specs.declared.head.Head.{Head}
+use Rattle.card.specs.declared.log.Record.{Record}
 use Rattle.card.specs.Card.{Card}
 use Rattle.card.specs.Proper.{Proper}
-use Rattle.card.specs.Reading.{readCard}
-use Rattle.card.specs.Changes.{Change, state, changed}
+use Rattle.memory.specs.Reading.{readCard}
+use Rattle.card.specs.declared.change.Change.{Change}
+use Rattle.card.specs.Updates.{withState, withBalance, withPurse}
+use Rattle.card.specs.Changes.{hotChange, headAfter, logAfter, changed, after}
 use Rattle.session.specs.declared.Session.{Session}
 use Rattle.apdu.specs.declared.instructions.Plain.the-variants.{VerifyPin}
 use Rattle.apdu.specs.declared.instructions.Instruction.the-variants.{IsPlain}
-use Rattle.commands_spec.specs.declared.outcome.Effect.{Effect}
-use Rattle.commands_spec.specs.declared.outcome.Effect.the-variants.{Unchanged, StateOnly, StateAndEntry, ParametersOnly, StateAndParameters, PinTry}
+use Rattle.commands_spec.specs.declared.outcome.Commits.{Commits}
+use Rattle.commands_spec.specs.declared.outcome.Commits.the-variants.{Unchanged, Hot, HotAndRecord, HotAndCold, HotTwice}
 use Rattle.commands_spec.specs.declared.outcome.Outcome.{Outcome}
-use Rattle.commands_spec.specs.Outcomes.{refused, done, tried, changesOf, after}
+use Rattle.commands_spec.specs.Outcomes.{refused, done, tried, changesOf, commitsOf}
 use Rattle.commands_spec.specs.Words.{isOne, refusals}
 use Rattle.commands_spec.specs.Respond.{named, respond, cardAfter}
-use Rattle.commands_spec.proofs.Ways.{Way, refuses, mismatch, judges, answers, books, way, ownWay, changes, Kept, not-refused}
+use Rattle.commands_spec.proofs.Ways.{Way, refuses, mismatch, judges, answers, books, way, ownWay, Kept, not-refused}
 use Rattle.commands_spec.proofs.Cuts.{one-change, two-changes}
 use Rattle.commands_spec.proofs.Sizes.{Sound}
 use Rattle.commands_spec.proofs.Proper.{each-proper}
@@ -36,7 +39,7 @@ use Rattle.purse_spec.proofs.Rows.{plans-done, plans-cut, plans-few, pl
 
 -- the same card with one try fewer
 pub record Fewer (c d : Card) : Type 0 where
-  pub is : d ≡ changed (state (tried (c .head .state))) c
+  pub is : d ≡ changed (hotChange (withState (tried (c .head .state)) (c .head))) c
   pub tries : d .head .state .tries + 1 ≡ c .head .state .tries
 
 -- what a cut command leaves of a card: itself, or, where the command is VERIFY PIN 94 20, itself with one try fewer
@@ -46,7 +49,7 @@ pub data CutCard (c : Card) (bytes : List ℕ) (d : Card) : Type 0 where
 
 -- balance, number and log are as before in both
 pub cut-keeps : {c d : Card} {bytes : List ℕ} → CutCard c bytes d → Kept c d
-unfolding changed tried
+unfolding changed headAfter logAfter withState withBalance withPurse tried
 cut-keeps (before e) = rw e (record { balance = refl; number = refl; log = refl })
 cut-keeps (fewer p q f) = rw (f .is) (record { balance = refl; number = refl; log = refl })
 
@@ -61,25 +64,23 @@ had-try c s bytes o (answers effect next t answer n q e) i f = absurd (false≢t
 had-try c s bytes o (books mac i′ j e) i f = absurd (let z : _≡_ {A = ℕ} 0 1 = cc in omega arith)
 
 -- no command makes more than two changes
-few-changes : (effect : Effect) (s : State) (h : Head) (r : List ℕ) → length (changesOf effect s h r) ≤ 2
+few-changes : (commits : Commits) (h : Head) (r : Record) → length (changesOf commits h r) ≤ 2
 unfolding changesOf
-few-changes Unchanged s h r = omega arith
-few-changes StateOnly s h r = omega arith
-few-changes StateAndEntry s h r = omega arith
-few-changes ParametersOnly s h r = omega arith
-few-changes StateAndParameters s h r = omega arith
-few-changes (PinTry true) s h r = omega arith
-few-changes (PinTry false) s h r = omega arith
+few-changes Unchanged h r = omega arith
+few-changes Hot h r = omega arith
+few-changes HotAndRecord h r = omega arith
+few-changes HotAndCold h r = omega arith
+few-changes (HotTwice first) h r = omega arith
 
 module _ (m : List ℕ) (c : Card) (s : Session) (bytes random : List ℕ) (e : readCard m ≡ some c) (i : Sound c s bytes random) where
   abbrev O : Outcome
   O = respond c s bytes random
 
   abbrev X : List Change
-  X = changes c O
+  X = commitsOf O
 
   abbrev p : List Store
-  p = outcomePlan c O m
+  p = outcomePlan O m
 
   -- no second change, VERIFY PIN with 9000 apart
   single : (named bytes ≡ IsPlain VerifyPin → O .status ≡ 0x9000 → ⊥) → (n : ℕ) → suc n < length X → ⊥
@@ -87,7 +88,7 @@ module _ (m : List ℕ) (c : Card) (s : Session) (bytes random : List ℕ) (e : 
 
   -- which makes two
   between : named bytes ≡ IsPlain VerifyPin → O .status ≡ 0x9000 → (n : ℕ) → suc n < length X → Fewer c (after (take (suc n) X) c)
-  unfolding after changed tried
+  unfolding after changed headAfter logAfter withState withBalance withPurse tried
   between v f zero h =
       let t = had-try c s bytes O (way c s bytes random) v f in
       rw (two-changes c s bytes random v f) (record { is = refl; tries = omega arith })
@@ -123,10 +124,10 @@ module _ (m : List ℕ) (c : Card) (s : Session) (bytes random : List ℕ) (e : 
 
   -- a command's stores are few, so that it isn't cut at limit 65,535
   pub performed-few : length p ≤ 65535
-  unfolding outcomePlan
+  unfolding outcomePlan commitsOf
   performed-few =
       let k = plans-few X m c (each-proper c s bytes random i) in
-      omega (arith, few-changes (O .effect) (c .head .state) (O .head) (O .entry))
+      omega (arith, few-changes (O .commits) (O .head) (O .logged))
 
   -- memory of bytes stays so
   pub performed-bytes : (L : ℕ) → AreBytes m → AreBytes (leaves p L m)

@@ -6,8 +6,8 @@ use Prim.Native.Nat.{ℕ}
 use lib.ListN.{length}
 use Rattle.octets.specs.Bytes.{AreBytes}
 use Rattle.card.specs.Card.{Card}
-use Rattle.card.specs.Reading.{readCard}
-use Rattle.card.proofs.Cards.{read-proper}
+use Rattle.memory.specs.Reading.{readCard}
+use Rattle.memory.proofs.Cards.{read-proper}
 use Rattle.session.specs.declared.Session.{Session}
 use Rattle.session.proofs.Sizes.{Sized}
 use Rattle.commands_spec.proofs.Sizes.{Sound}

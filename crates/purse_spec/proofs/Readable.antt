@@ -5,8 +5,8 @@ use mathlib.Core.List.{List, []}
 use mathlib.Core.Path.{_≡_, refl, ap}
 use Prim.Native.Nat.{ℕ}
 use Rattle.octets.specs.Bytes.{AreBytes}
-use Rattle.card.specs.Reading.{readable, readCard}
-use Rattle.card.proofs.Cards.{readable-read, read-readable}
+use Rattle.memory.specs.Reading.{readable, readCard}
+use Rattle.memory.proofs.Cards.{readable-read, read-readable}
 use Rattle.session.specs.declared.Session.{Session}
 use Rattle.session.specs.Transitions.{unselected}
 use Rattle.purse_spec.specs.Calls.{Run, refusal, performed}

@@ -8,14 +8,15 @@ use Prim.Native.Nat.{ℕ}
 use native.Mathlib.Omega.{arith}
 use borrow.Author.Tests.{le-ltb}
 use Rattle.card.specs.Card.{Card}
-use Rattle.card.specs.Reading.{readCard}
+use Rattle.memory.specs.Reading.{readCard}
 use Rattle.apdu.specs.declared.instructions.Plain.the-variants.{VerifyPin}
 use Rattle.apdu.specs.declared.instructions.Instruction.the-variants.{IsPlain}
+use Rattle.commands_spec.specs.Outcomes.{commitsOf}
 use Rattle.commands_spec.specs.declared.outcome.Outcome.{Outcome}
 use Rattle.commands_spec.specs.Respond.{named, respond}
-use Rattle.commands_spec.proofs.Ways.{changes}
 use Rattle.commands_spec.proofs.Refusals.{refusal-changes-nothing}
-use Rattle.commands_spec.proofs.Readers.{isReader, readers-change-nothing}
+use Rattle.commands_spec.proofs.Ways.{isReader}
+use Rattle.commands_spec.proofs.Readers.{readers-change-nothing}
 use Rattle.purse_spec.specs.Calls.{Run, refusal, performed}
 use Rattle.purse_spec.specs.Commands.{plans, outcomePlan, outcomeRun}
 use Rattle.purse_spec.specs.History.{send, Situation, run}
@@ -27,12 +28,12 @@ pub record NoStore (m : List ℕ) (r : Run) : Type 0 where
   pub count : r .count ≡ 0
   pub memory : r .memory ≡ m
 
-performed-none : (c : Card) (o : Outcome) (m area : List ℕ) (limit : ℕ) → changes c o ≡ [] → NoStore m (outcomeRun c o m area limit)
+performed-none : (c : Card) (o : Outcome) (m area : List ℕ) (limit : ℕ) → commitsOf o ≡ [] → NoStore m (outcomeRun o m area limit)
 unfolding performed outcomePlan plans
 performed-none c o m area limit h = rw (h, le-ltb limit 0 (omega arith)) (record { count = refl; memory = leaves-nothing limit m })
 
 none-stored : (st : Situation) (c : Card) (bytes random area : List ℕ) (limit : ℕ) → readCard (st .memory) ≡ some c
-    → changes c (respond c (st .session) bytes random) ≡ [] → NoStore (st .memory) (run (send bytes random area limit) st)
+    → commitsOf (respond c (st .session) bytes random) ≡ [] → NoStore (st .memory) (run (send bytes random area limit) st)
 unfolding run refusal
 none-stored st c bytes random area limit e h =
     command-on (st .memory) (λ (r : ℕ → Run). NoStore (st .memory) (r limit)) (st .session) bytes random area c e

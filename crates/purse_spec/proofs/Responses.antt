@@ -13,7 +13,7 @@ use Rattle.octets.specs.Buffers.{content}
 use Rattle.octets.proofs.Pasting.{paste-front}
 use Rattle.octets.proofs.Numbers.{word-between}
 use Rattle.card.specs.Card.{Card}
-use Rattle.card.specs.Reading.{readCard}
+use Rattle.memory.specs.Reading.{readCard}
 use Rattle.session.specs.declared.Session.{Session}
 use Rattle.commands_spec.specs.declared.outcome.Outcome.{Outcome}
 use Rattle.commands_spec.specs.Respond.{respond}
@@ -50,7 +50,7 @@ pub record Responds (o : Outcome) (area : List ℕ) (r : Run) : Type 0 where
 
 -- past its refusals
 pub performed-responds : (m : List ℕ) (c : Card) (s : Session) (bytes random area : List ℕ) (limit : ℕ) → leastArea ≤ length area → Sound c s bytes random
-    → outcomeRun c (respond c s bytes random) m area limit .answer ≡ 0 → Responds (respond c s bytes random) area (outcomeRun c (respond c s bytes random) m area limit)
+    → outcomeRun (respond c s bytes random) m area limit .answer ≡ 0 → Responds (respond c s bytes random) area (outcomeRun (respond c s bytes random) m area limit)
 unfolding performed statusWord
 performed-responds m c s bytes random area limit a i =
     let o = respond c s bytes random in

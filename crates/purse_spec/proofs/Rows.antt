@@ -1,26 +1,31 @@
 -- Changes in a row on a card: finished, they read as the card after all of them; cut, as the card after the first of them, fewer than
 -- all. Assumes nothing.
+use mathlib.Core.Bool.{Bool, true, false}
 use mathlib.Core.List.{List, [], _∷_}
 use mathlib.Core.Option.{some}
 use mathlib.Core.Path.{_≡_, ap, _∙_}
-use Prim.Native.Nat.{ℕ, suc, _*_, _-_, _≤_, _<_}
+use Prim.Native.Nat.{ℕ, suc, _+_, _*_, _-_, _≤_, _<_}
 use native.Mathlib.Decide.{decLe}
 use native.Mathlib.Nat.{lt-of-not-le}
 use native.Mathlib.Omega.{arith}
 use lib.ListN.{length, take, length-append}
 use Rattle.octets.specs.Bytes.{AreBytes}
+use Rattle.octets.specs.Choice.{pick}
 use Rattle.stores.specs.Stores.{applied, leaves}
 use Rattle.stores.proofs.Plans.{applied-append}
 use Rattle.stores.proofs.Limits.{limit-enough}
 use Rattle.stores.proofs.Sequence.{leaves-first, leaves-second}
+use Rattle.card.specs.Log.{recordSize}
 use Rattle.card.specs.Card.{Card}
 use Rattle.card.specs.Proper.{Proper}
-use Rattle.card.specs.Reading.{readCard}
-use Rattle.card.specs.Changes.{Change, state, entry, parameters, both, changed, plan, storeCount}
-use Rattle.card.proofs.Cut.{change-cut}
-use Rattle.card.proofs.Done.{proper-fills, change-done}
-use Rattle.card.proofs.Bounds.{plan-length, change-bytes}
-use Rattle.commands_spec.specs.Outcomes.{after}
+use Rattle.memory.specs.Reading.{readCard}
+use Rattle.card.specs.declared.change.Change.{Change}
+use Rattle.card.specs.Changes.{changed, after}
+use Rattle.memory.specs.Structs.{hotSize, coldSize}
+use Rattle.memory.specs.Changes.{plan, storeCount}
+use Rattle.memory.proofs.Cut.{change-cut}
+use Rattle.memory.proofs.Done.{proper-fills, change-done}
+use Rattle.memory.proofs.Bounds.{plan-length, change-bytes}
 use Rattle.purse_spec.specs.Commands.{plans}
 use Rattle.purse_spec.proofs.Performed.{leaves-nothing}
 
@@ -71,14 +76,17 @@ plans-cut (x ∷ xs) m c L e a h =
 
 -- ---- how many stores
 
-count-most : (x : Change) → storeCount x ≤ 210
-count-most (state s) = omega arith
-count-most (entry s r) = omega arith
-count-most (parameters h) = omega arith
-count-most (both h) = omega arith
+count-most : (x : Change) → storeCount x ≤ 234
+count-most x = go (x .logs) (x .cold)
+  where
+    go : (logs cold : Bool) → hotSize + pick logs recordSize 0 + pick cold coldSize 0 + 1 ≤ 234
+    go true true = omega arith
+    go true false = omega arith
+    go false true = omega arith
+    go false false = omega arith
 
--- at most 210 each
-pub plans-few : (xs : List Change) (m : List ℕ) (c : Card) → EachProper c xs → length (plans xs m) ≤ 210 * length xs
+-- at most 234 each
+pub plans-few : (xs : List Change) (m : List ℕ) (c : Card) → EachProper c xs → length (plans xs m) ≤ 234 * length xs
 unfolding plans
 plans-few [] m c a = omega arith
 plans-few (x ∷ xs) m c a =

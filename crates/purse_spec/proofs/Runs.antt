@@ -11,20 +11,20 @@ use lib.Dec.{ltb, eqb}
 use lib.ListN.{length}
 use Rattle.octets.specs.Choice.{pick}
 use Rattle.card.specs.Card.{Card}
-use Rattle.card.specs.Layout.{memorySize}
-use Rattle.card.specs.Reading.{readable, readCard}
-use Rattle.card.specs.Changes.{installPlan}
+use Rattle.memory.specs.Layout.{memorySize}
+use Rattle.memory.specs.Reading.{readable, readCard}
+use Rattle.memory.specs.Changes.{installPlan}
 use Rattle.session.specs.declared.Session.{Session}
 use Rattle.session.specs.Transitions.{unselected}
 use Rattle.commands_spec.specs.Respond.{respond}
 use Rattle.purse_spec.specs.Calls.{Run, awaits, refusal, performed}
-use Rattle.purse_spec.specs.Installation.{dataOk, fixedOf, keysOf, installation}
+use Rattle.purse_spec.specs.Installation.{dataOk, dataFixed, dataAid, dataKeys, installation}
 use Rattle.purse_spec.specs.Startup.{startup}
 use Rattle.purse_spec.specs.Commands.{leastArea, outcomeRun, onCard, command}
 
 -- an installation past its refusals
 abbrev pub installed : List ℕ → List ℕ → ℕ → Run
-installed m d limit = performed (installPlan (fixedOf d) (keysOf d)) limit m unselected [] []
+installed m d limit = performed (installPlan (dataFixed d) (dataAid d) (dataKeys d)) limit m unselected [] []
 
 -- a start-up past its refusals
 abbrev pub started : List ℕ → ℕ → Run
@@ -69,7 +69,7 @@ module _ (m : List ℕ) (P : (ℕ → Run) → Type 0) where
       → (length m ≡ memorySize → leastArea ≤ length area → length random ≡ 8 → readCard m ≡ none → P (λ L. refusal 2 s m area))
       → ((c : Card) → leastArea ≤ length area → length random ≡ 8 → readCard m ≡ some c → awaits m ≡ true → P (λ L. refusal 5 s m area))
       → ((c : Card) → leastArea ≤ length area → length random ≡ 8 → readCard m ≡ some c → awaits m ≡ false
-      → P (λ L. outcomeRun c (respond c s bytes random) m area L))
+      → P (λ L. outcomeRun (respond c s bytes random) m area L))
       → P (λ L. command m s bytes random area L)
   unfolding command onCard
   command-holds s bytes random area one three four two five rest =
@@ -98,7 +98,7 @@ module _ (m : List ℕ) (P : (ℕ → Run) → Type 0) where
 
   module _ (s : Session) (bytes random area : List ℕ) where
     pub command-runs : AnyRefusal P s m area
-        → ((c : Card) → leastArea ≤ length area → length random ≡ 8 → readCard m ≡ some c → P (λ L. outcomeRun c (respond c s bytes random) m area L))
+        → ((c : Card) → leastArea ≤ length area → length random ≡ 8 → readCard m ≡ some c → P (λ L. outcomeRun (respond c s bytes random) m area L))
         → P (λ L. command m s bytes random area L)
     command-runs out rest =
         command-holds m P s bytes random area (λ e. out 1 (omega arith) (omega arith)) (λ e t. out 3 (omega arith) (omega arith))
@@ -107,7 +107,7 @@ module _ (m : List ℕ) (P : (ℕ → Run) → Type 0) where
 
     -- on a card in hand
     pub command-on : (c : Card) → readCard m ≡ some c → AnyRefusal P s m area
-        → (leastArea ≤ length area → length random ≡ 8 → P (λ L. outcomeRun c (respond c s bytes random) m area L))
+        → (leastArea ≤ length area → length random ≡ 8 → P (λ L. outcomeRun (respond c s bytes random) m area L))
         → P (λ L. command m s bytes random area L)
     command-on c e out rest =
-        command-runs out (λ d t u q. let k : c ≡ d = cc in subst (λ (x : Card). P (λ L. outcomeRun x (respond x s bytes random) m area L)) k (rest t u))
+        command-runs out (λ d t u q. let k : c ≡ d = cc in subst (λ (x : Card). P (λ L. outcomeRun (respond x s bytes random) m area L)) k (rest t u))

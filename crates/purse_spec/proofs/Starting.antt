@@ -6,11 +6,11 @@ use Prim.Native.Nat.{ℕ}
 use native.Mathlib.Omega.{arith}
 use lib.ListN.{length}
 use Rattle.stores.proofs.Limits.{answers-done}
-use Rattle.card.specs.Layout.{memorySize}
-use Rattle.card.specs.Reading.{readable}
-use Rattle.card.proofs.Seen.{reads}
-use Rattle.card.proofs.Live.{sound}
-use Rattle.card.proofs.Cards.{readable-read}
+use Rattle.memory.specs.Layout.{memorySize}
+use Rattle.memory.specs.Reading.{readable}
+use Rattle.memory.proofs.Seen.{reads}
+use Rattle.memory.proofs.Live.{sound}
+use Rattle.memory.proofs.Cards.{readable-read}
 use Rattle.session.specs.Transitions.{unselected}
 use Rattle.purse_spec.specs.Calls.{Run, refusal}
 use Rattle.purse_spec.specs.Startup.{startup}

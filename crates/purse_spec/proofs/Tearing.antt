@@ -10,7 +10,7 @@ use native.Mathlib.Omega.{arith}
 use lib.ListN.{length}
 use Rattle.octets.specs.Bytes.{byteAt}
 use Rattle.card.specs.Card.{Card}
-use Rattle.card.specs.Reading.{readCard}
+use Rattle.memory.specs.Reading.{readCard}
 use Rattle.session.specs.declared.Session.{Session}
 use Rattle.commands_spec.specs.Respond.{respond, cardAfter}
 use Rattle.commands_spec.proofs.Sizes.{Sound}
@@ -53,7 +53,7 @@ module _ (m : List ℕ) (c : Card) (s : Session) (bytes random area : List ℕ) 
   unfolding refusal
   refusal-left n g h = (c, e, record { finished = λ q. absurd (omega arith); cut = λ q. absurd (omega arith); refused = λ q r. refl })
 
-  performed-left : Sound c s bytes random → LeftIn c s bytes random (outcomeRun c (respond c s bytes random) m area limit)
+  performed-left : Sound c s bytes random → LeftIn c s bytes random (outcomeRun (respond c s bytes random) m area limit)
   unfolding performed
   performed-left i =
       by-limit (LeftIn c s bytes random) limit _ _ _

@@ -9,7 +9,7 @@ use borrow.Author.Tests.{eq-eqb}
 use lib.ListN.{length}
 use Rattle.octets.specs.Bytes.{AreBytes, byteAt, zeros}
 use Rattle.card.specs.Card.{Card}
-use Rattle.card.specs.Reading.{readCard}
+use Rattle.memory.specs.Reading.{readCard}
 use Rattle.session.specs.declared.Session.{Session}
 use Rattle.commands_spec.specs.Respond.{respond, cardAfter}
 use Rattle.purse_spec.specs.History.{Call, start, send, Situation, limited, OfBytes, AllOfBytes, run, isStart, isInstall, next, afterCalls, Admissible, IsHistory, limitOf}

@@ -10,12 +10,13 @@ use Rattle.octets.specs.Choice.{pick}
 use Rattle.octets.specs.Buffers.{content}
 use Rattle.stores.specs.Stores.{Store, applied}
 use Rattle.card.specs.Card.{Card}
-use Rattle.card.specs.Layout.{memorySize}
-use Rattle.card.specs.Reading.{readCard}
-use Rattle.card.specs.Changes.{Change, plan}
+use Rattle.memory.specs.Layout.{memorySize}
+use Rattle.memory.specs.Reading.{readCard}
+use Rattle.card.specs.declared.change.Change.{Change}
+use Rattle.memory.specs.Changes.{plan}
 use Rattle.session.specs.declared.Session.{Session}
 use Rattle.commands_spec.specs.declared.outcome.Outcome.{Outcome}
-use Rattle.commands_spec.specs.Outcomes.{changesOf}
+use Rattle.commands_spec.specs.Outcomes.{commitsOf}
 use Rattle.commands_spec.specs.Respond.{respond}
 use Rattle.purse_spec.specs.Calls.{Run, awaits, refusal, performed}
 
@@ -28,19 +29,19 @@ unfoldable pub plans : List Change → List ℕ → List Store
 plans [] m = []
 plans (x ∷ xs) m = plan x m ++ plans xs (applied (plan x m) m)
 
--- the stores of an outcome
-unfoldable pub outcomePlan : Card → Outcome → List ℕ → List Store
-outcomePlan c o m = plans (changesOf (o .effect) (c .head .state) (o .head) (o .entry)) m
+-- the stores of an outcome's commits
+unfoldable pub outcomePlan : Outcome → List ℕ → List Store
+outcomePlan o m = plans (commitsOf o) m
 
 -- the run of an outcome
-abbrev pub outcomeRun : Card → Outcome → List ℕ → List ℕ → ℕ → Run
-outcomeRun c o m area limit = performed (outcomePlan c o m) limit m (o .session) (content (o .reply)) area
+abbrev pub outcomeRun : Outcome → List ℕ → List ℕ → ℕ → Run
+outcomeRun o m area limit = performed (outcomePlan o m) limit m (o .session) (content (o .reply)) area
 
 -- "memory reads as no card": 2; "memory awaits a start-up": 5
 unfoldable pub onCard : Option Card → List ℕ → Session → List ℕ → List ℕ → List ℕ → ℕ → Run
 onCard none m s command random area limit = refusal 2 s m area
 onCard (some c) m s command random area limit =
-    pick (awaits m) (refusal 5 s m area) (outcomeRun c (respond c s command random) m area limit)
+    pick (awaits m) (refusal 5 s m area) (outcomeRun (respond c s command random) m area limit)
 
 -- answers 1, 3, 4, then the card
 unfoldable pub command : List ℕ → Session → List ℕ → List ℕ → List ℕ → ℕ → Run

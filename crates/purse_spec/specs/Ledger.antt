@@ -9,7 +9,7 @@ use Rattle.octets.specs.Choice.{pick}
 use Rattle.octets.specs.Bytes.{byteAt}
 use Rattle.octets.specs.Words.{wordAt}
 use Rattle.card.specs.Card.{Card}
-use Rattle.card.specs.Reading.{readCard}
+use Rattle.memory.specs.Reading.{readCard}
 use Rattle.purse_spec.specs.Calls.{Run}
 use Rattle.purse_spec.specs.History.{Call, install, start, send, Situation, run, next, afterCalls, isStart}
 

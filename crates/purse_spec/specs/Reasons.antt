@@ -6,7 +6,7 @@ use mathlib.Core.Option.{none}
 use mathlib.Core.Path.{_≡_}
 use Prim.Native.Nat.{ℕ, _≤_, _<_}
 use lib.ListN.{length}
-use Rattle.card.specs.Reading.{readCard}
+use Rattle.memory.specs.Reading.{readCard}
 use Rattle.commands_spec.specs.Order.{Rule}
 use Rattle.purse_spec.specs.Calls.{awaits}
 use Rattle.purse_spec.specs.History.{Call, install, start, send, Situation, limitOf, limited, run}

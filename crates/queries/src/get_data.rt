@@ -6,7 +6,7 @@ ghost use lib.ListN.{length};
 ghost use Rattle.octets.specs.Buffers.{holding};
 ghost use Rattle.commands_spec.specs.GetData.{getDataOf};
 use card::Head;
-use commands_spec::Effect;
+use commands_spec::Commits;
 use commands_spec::Outcome;
 use objects::datum;
 use objects::done;
@@ -37,5 +37,5 @@ pub fn get_data(head: Head, session: Session, tag: u8) -> Outcome
     let value = datum(head, session.verified, tag);
     let answer = measured(value);
     let left = ended(session);
-    done(Effect::Unchanged, head, left, answer)
+    done(Commits::Unchanged, head, left, answer)
 }

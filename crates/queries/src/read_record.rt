@@ -3,9 +3,12 @@ ghost use mathlib.Core.Path.{_≡_};
 ghost use Prim.Native.Nat.{_≤_};
 ghost use lib.ListN.{length};
 ghost use Rattle.octets.specs.Buffers.{holding};
+ghost use Rattle.card.specs.Log.{recordBytes};
 ghost use Rattle.commands_spec.specs.ReadRecord.{readRecordOf};
 use card::Head;
-use commands_spec::Effect;
+use card::Record;
+use card::record_bytes;
+use commands_spec::Commits;
 use commands_spec::Outcome;
 use objects::done;
 use octets::Buffer;
@@ -15,17 +18,18 @@ use session::Session;
 use session::ended;
 
 // A record as an answer.
-fn record_answer(entry: [u8; 24]) -> Buffer
-    ensures { λ r. ⌜ (r ≡ holding entry) × (length entry ≤ 126) ⌝ }
+fn record_answer(found: Record) -> Buffer
+    ensures { λ r. ⌜ (r ≡ holding (recordBytes found)) × (length (recordBytes found) ≤ 126) ⌝ }
 {
-    append(empty(), &entry)
+    let bytes = record_bytes(found);
+    append(empty(), &bytes)
 }
 
 // READ RECORD past step 5.
-pub fn read_record(head: Head, session: Session, entry: [u8; 24]) -> Outcome
-    ensures { λ r. ⌜ r ≡ readRecordOf head session entry ⌝ }
+pub fn read_record(head: Head, session: Session, found: Record) -> Outcome
+    ensures { λ r. ⌜ r ≡ readRecordOf head session found ⌝ }
 {
-    let answer = record_answer(entry);
+    let answer = record_answer(found);
     let left = ended(session);
-    done(Effect::Unchanged, head, left, answer)
+    done(Commits::Unchanged, head, left, answer)
 }

@@ -6,9 +6,9 @@ ghost use lib.ListN.{length, take};
 ghost use Rattle.octets.specs.Buffers.{holding};
 ghost use Rattle.octets.specs.Bytes.{same};
 ghost use Rattle.commands_spec.specs.Select.{selectOf};
-use card::Fixed;
+use card::Aid;
 use card::Head;
-use commands_spec::Effect;
+use commands_spec::Commits;
 use commands_spec::Outcome;
 use objects::administrative;
 use objects::done;
@@ -24,15 +24,15 @@ use session::Session;
 use session::reselected;
 
 // Whether an AID is the card's, byte for byte and no shorter or longer.
-fn is_ours(aid: &[u8], fixed: Fixed) -> bool
-    ensures { λ r. ⌜ r ≡ same (now (aid .entry)) (take (fixed .aidlen) (fixed .aid)) ⌝ }
+fn is_ours(aid: &[u8], own: Aid) -> bool
+    ensures { λ r. ⌜ r ≡ same (now (aid .entry)) (take (own .size) (own .bytes)) ⌝ }
 {
-    let n = fixed.aidlen as usize;
-    let ours = fixed.aid;
+    let n = own.size as usize;
+    let bytes = own.bytes;
     if 16 < n {
-        return same(aid, &ours);
+        return same(aid, &bytes);
     }
-    same(aid, &ours[0..n])
+    same(aid, &bytes[0..n])
 }
 
 // Identifier, administrative and operational status.
@@ -48,15 +48,15 @@ fn select_answer(identifier: [u8; 4], status: u8, numbers: [u8; 10]) -> Buffer
 pub fn select(head: Head, session: Session, aid: &[u8]) -> Outcome
     ensures { λ r. ⌜ r ≡ selectOf head session (now (aid .entry)) ⌝ }
 {
-    let fixed = head.fixed;
-    if !is_ours(aid, fixed) {
+    let purse = head.purse;
+    let own = purse.aid;
+    if !is_ours(aid, own) {
         return refused(head, reselected(false, session), 0x6A82);
     }
-    let purse = head.purse;
     let parameters = purse.parameters;
     let identifier = parameters.identifier;
     let status = administrative(head, session.verified);
     let numbers = operational(head);
     let answer = select_answer(identifier, status, numbers);
-    done(Effect::Unchanged, head, reselected(true, session), answer)
+    done(Commits::Unchanged, head, reselected(true, session), answer)
 }

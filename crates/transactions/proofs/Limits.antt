@@ -8,7 +8,7 @@ use Rattle.card.specs.declared.head.Head.{Head}
 use Rattle.session.specs.declared.Session.{Session}
 use Rattle.session.specs.Codes.{amountOf}
 use Rattle.commands_spec.specs.Transaction.{newBalance, keepsLimits}
-use Rattle.commands_spec.specs.CompleteTransaction.{isDebit, completeJudged}
+use Rattle.commands_spec.specs.CompleteTransaction.{isDebit, completeStatus}
 use Rattle.commands_spec.proofs.Judgements.{complete-passed}
 
 -- a new balance is no greater than the old one or than the maximum
@@ -18,12 +18,10 @@ unfolding keepsLimits newBalance
 kept-below true amount balance maxbalance n k b m = omega arith
 kept-below false amount balance maxbalance n k b m = let h = leb-true (balance + amount) maxbalance k in omega arith
 
-module _ (h : Head) (s : Session) (passed : completeJudged h s ≡ 0x9000) where
+module _ (h : Head) (s : Session) (passed : completeStatus h s ≡ 0x9000) where
   pub next-number : h .shared .maxnumber < 65536 → h .state .number + 1 < 65536
-  unfolding completeJudged
-  next-number m = let f = complete-passed _ _ _ _ _ _ passed .room in omega arith
+  next-number m = let f = complete-passed h s passed .room in omega arith
 
-  pub next-balance : h .state .balance < 65536 → h .purse .parameters .maxbalance < 65536
-      → newBalance (isDebit (s .pending)) (amountOf (s .pending)) (h .state .balance) < 65536
-  unfolding completeJudged
-  next-balance b m = kept-below _ _ _ _ 65536 (complete-passed _ _ _ _ _ _ passed .within) b m
+  pub next-balance : h .purse .balance < 65536 → h .purse .parameters .maxbalance < 65536
+      → newBalance (isDebit (s .pending)) (amountOf (s .pending)) (h .purse .balance) < 65536
+  next-balance b m = kept-below _ _ _ _ 65536 (complete-passed h s passed .within) b m

@@ -1,18 +1,19 @@
 // VERIFY PIN. The try is spent before the PIN is judged.
 ghost use mathlib.Core.Path.{_≡_};
 ghost use Rattle.commands_spec.specs.VerifyPin.{judged, verifyPinOf, verifyStatus};
-ghost use Rattle.commands_spec.specs.Outcomes.{refused, tried};
+ghost use Rattle.commands_spec.specs.Outcomes.{tried};
 ghost use Rattle.octets.specs.Bytes.{same};
 ghost use Rattle.channel.specs.Channel.{received};
 use card::Head;
 use card::State;
+use card::log::void;
+use card::updates::with_state;
+use card::updates::with_tries;
 use channel::received8;
-use commands_spec::Effect;
+use commands_spec::Commits;
 use commands_spec::Outcome;
 use objects::done;
 use objects::refused;
-use objects::with_state;
-use objects::with_tries;
 use octets::append_word;
 use octets::empty;
 use octets::same;
@@ -23,8 +24,8 @@ use session::ended;
 use session::flagged;
 
 // VERIFY PIN, before the PIN is judged.
-pub fn verify_status(personalized: bool, defined: bool, level: u8, tries: u8) -> u16
-    ensures { λ r. ⌜ r ≡ verifyStatus personalized defined level tries ⌝ }
+pub fn verify_status(personalized: bool, defined: bool, held: u8, tries: u8) -> u16
+    ensures { λ r. ⌜ r ≡ verifyStatus personalized defined held tries ⌝ }
 {
     if !personalized {
         return 0x6985;
@@ -32,7 +33,7 @@ pub fn verify_status(personalized: bool, defined: bool, level: u8, tries: u8) ->
     if !defined {
         return 0x6A81;
     }
-    if level < CREDIT {
+    if held < CREDIT {
         return 0x6982;
     }
     if tries == 0 {
@@ -42,7 +43,7 @@ pub fn verify_status(personalized: bool, defined: bool, level: u8, tries: u8) ->
 }
 
 // One try fewer.
-pub fn tried(state: State) -> State
+fn tried(state: State) -> State
     ensures { λ r. ⌜ r ≡ tried state ⌝ }
 {
     let n = state.tries;
@@ -62,24 +63,24 @@ fn is_right(key: [u8; 16], body: [u8; 8], block: [u8; 8]) -> bool
     same(&sent, &block)
 }
 
-// One try fewer; then, where the PIN was right, tries full.
+// A try is spent; then, where the PIN is right, tries are full.
 fn judged(right: bool, head: Head, session: Session) -> Outcome
     ensures { λ r. ⌜ r ≡ judged right head session ⌝ }
 {
-    let fixed = head.fixed;
     let state = head.state;
-    let spent = with_state(tried(state), head);
-    let full = with_tries(fixed.maxtries, spent);
+    let spent = tried(state);
     let left = flagged(right, session);
     if right {
-        return done(Effect::PinTry(true), full, left, empty());
+        let full = with_tries(head.fixed.maxtries, head);
+        return done(Commits::HotTwice(spent), full, left, empty());
     }
+    let logged = void();
     let reply = append_word(empty(), 0x6300);
     Outcome {
         status: 0x6300,
-        effect: Effect::PinTry(false),
-        head: spent,
-        entry: [0; 24],
+        commits: Commits::Hot,
+        head: with_state(spent, head),
+        logged: logged,
         reply: reply,
         session: left,
     }
@@ -89,16 +90,13 @@ fn judged(right: bool, head: Head, session: Session) -> Outcome
 pub fn verify_pin(head: Head, session: Session, body: [u8; 8]) -> Outcome
     ensures { λ r. ⌜ r ≡ verifyPinOf head session body ⌝ }
 {
-    let purse = head.purse;
-    let p = purse.parameters;
     let pin = head.pin;
     let block = pin.block;
-    let state = head.state;
     let channel = session.channel;
     let key = channel.enc;
     let level = channel.level;
-    let right = access(level);
-    let w = verify_status(p.personalized, pin.defined, right, state.tries);
+    let personalized = head.purse.parameters.personalized;
+    let w = verify_status(personalized, pin.defined, access(level), head.state.tries);
     if w != 0x9000 {
         return refused(head, ended(session), w);
     }

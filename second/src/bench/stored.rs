@@ -2,6 +2,7 @@
 
 pub mod cuts;
 pub mod fixture;
+pub mod image;
 pub mod purchase;
 pub mod records;
 pub mod sessions;
@@ -21,6 +22,8 @@ pub fn write(folder: &Path) -> io::Result<()> {
         ("sessions.bench", sessions::file()),
         ("cuts.bench", cuts::file()),
         ("records.bench", records::file()),
+        ("image-making.bench", image::making()),
+        ("image-reading.bench", image::reading()),
     ];
     for (name, bytes) in files {
         let path = folder.join(name);

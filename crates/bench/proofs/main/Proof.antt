@@ -43,16 +43,5 @@ returns-2 c = search needs
 pub main-spec : {M : Type 1} → statement M
 main-spec =
     tie.close
-    (tie.spec
-    Inv-loop
-    μ-loop
-    arg-count-requires
-    slice-aggregate-run
-    run-requires
-    returns
-    loop-holds
-    run-named-requires
-    add-i
-    loop-less
-    loop-again
-    returns-2)
+    (tie.spec Inv-loop μ-loop arg-count-requires slice-aggregate-run run-requires returns loop-holds
+    run-named-requires add-i loop-less loop-again returns-2)

@@ -39,14 +39,5 @@ returns c = search needs
 pub push-all-spec : {M : Type 1} → statement M
 push-all-spec =
     tie.close
-    (tie.spec
-    Inv-loop
-    μ-loop
-    loop-holds
-    shared-slice-read-push
-    push-requires
-    add-i
-    loop-less
-    loop-again
-    same-length
+    (tie.spec Inv-loop μ-loop loop-holds shared-slice-read-push push-requires add-i loop-less loop-again same-length
     returns)

@@ -36,11 +36,4 @@ returns-3 c =
 pub cipher-cbc-spec : {M : Type 1} → statement M
 cipher-cbc-spec =
     tie.close
-    (tie.spec
-    returns
-    returns-2
-    part16-requires
-    part8-requires
-    cbc-encipher-requires
-    same-length
-    returns-3)
+    (tie.spec returns returns-2 part16-requires part8-requires cbc-encipher-requires same-length returns-3)

@@ -47,14 +47,5 @@ returns-4 c =
 pub cipher-signature-spec : {M : Type 1} → statement M
 cipher-signature-spec =
     tie.close
-    (tie.spec
-    returns
-    returns-2
-    returns-3
-    part16-requires
-    part8-requires
-    signature-requires
-    slice-aggregate-paste
-    paste-requires
-    same-length
-    returns-4)
+    (tie.spec returns returns-2 returns-3 part16-requires part8-requires signature-requires slice-aggregate-paste
+    paste-requires same-length returns-4)

@@ -84,16 +84,5 @@ returns-5 c =
 pub purse-command-spec : {M : Type 1} → statement M
 purse-command-spec =
     tie.close
-    (tie.spec
-    returns
-    returns-2
-    returns-3
-    unpack-requires
-    same-length
-    returns-4
-    command-requires
-    result-requires
-    same-length-2
-    same-length-3
-    same-length-4
-    returns-5)
+    (tie.spec returns returns-2 returns-3 unpack-requires same-length returns-4 command-requires result-requires
+    same-length-2 same-length-3 same-length-4 returns-5)

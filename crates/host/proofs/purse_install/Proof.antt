@@ -51,11 +51,4 @@ returns-3 c =
 pub purse-install-spec : {M : Type 1} → statement M
 purse-install-spec =
     tie.close
-    (tie.spec
-    returns
-    returns-2
-    install-requires
-    result-requires
-    same-length
-    same-length-2
-    returns-3)
+    (tie.spec returns returns-2 install-requires result-requires same-length same-length-2 returns-3)

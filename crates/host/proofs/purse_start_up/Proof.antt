@@ -48,11 +48,4 @@ returns-3 c =
 pub purse-start-up-spec : {M : Type 1} → statement M
 purse-start-up-spec =
     tie.close
-    (tie.spec
-    returns
-    returns-2
-    start-up-requires
-    result-requires
-    same-length
-    same-length-2
-    returns-3)
+    (tie.spec returns returns-2 start-up-requires result-requires same-length same-length-2 returns-3)

@@ -60,17 +60,5 @@ returns-4 c =
 pub put-bytes-spec : {M : Type 1} → statement M
 put-bytes-spec =
     tie.close
-    (tie.spec
-    left-requires
-    returns
-    sub-if2
-    put-each-requires
-    same-length
-    returns-2
-    put-each-requires-2
-    same-length-2
-    returns-3
-    paste-requires
-    sub-result
-    same-length-3
-    returns-4)
+    (tie.spec left-requires returns sub-if2 put-each-requires same-length returns-2 put-each-requires-2 same-length-2
+    returns-3 paste-requires sub-result same-length-3 returns-4)

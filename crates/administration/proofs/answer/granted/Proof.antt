@@ -1,3 +1,4 @@
+-- `granted`: an empty answer.
 use mathlib.Core.List.{[]}
 use borrow.Author.Needs.{needs}
 use Rattle.objects.proofs.Answers.{done-held}

@@ -1,3 +1,4 @@
+-- `change_pin`: by its tests, access before any block is deciphered.
 use mathlib.Core.Path.{_≡_}
 use mathlib.Core.Bool.{false}
 use lib.Dec.{eqb}
@@ -63,18 +64,6 @@ returns-3 c = let n : length (c .before .before .before .before .before .before 
 pub change-pin-spec : {M : Type 1} → statement M
 change-pin-spec =
     tie.close
-    (tie.spec
-    access-requires
-    ended-requires
-    refused-requires
-    returns
-    dek-of-requires
-    received8-requires
-    well-formed-requires
-    ended-requires-2
-    refused-requires-2
-    returns-2
-    with-pin-requires
-    flagged-requires
-    granted-requires
-    returns-3)
+    (tie.spec access-requires ended-requires refused-requires returns dek-of-requires received8-requires
+    well-formed-requires ended-requires-2 refused-requires-2 returns-2 with-pin-requires flagged-requires
+    granted-requires returns-3)

@@ -1,7 +1,8 @@
+-- `unblock_pin`: by its tests.
 use Rattle.administration.proofs.Early.{unblock-lacks, unblock-denied, unblock-passes}
-use Rattle.commands_spec.specs.PinChange.{pinChangeOf, pinStatus}
+use Rattle.commands_spec.specs.PinChange.{pinChangeOf}
 use Rattle.commands_spec.specs.Outcomes.{decided}
-use borrow.Author.Tests.{lt-ltb, le-ltb, not-true, not-false}
+use borrow.Author.Tests.{not-true, not-false}
 use borrow.Author.Needs.{needs}
 use Rattle.administration.proofs.pin_change.unblock_pin.Statement.{statement}
 use Rattle.administration.proofs.pin_change.unblock_pin.Tie as tie
@@ -45,15 +46,5 @@ returns-3 c = rw (← c .before .before .before .before .access .ensures, unbloc
 pub unblock-pin-spec : {M : Type 1} → statement M
 unblock-pin-spec =
     tie.close
-    (tie.spec
-    ended-requires
-    refused-requires
-    returns
-    access-requires
-    ended-requires-2
-    refused-requires-2
-    returns-2
-    with-tries-requires
-    flagged-requires
-    granted-requires
-    returns-3)
+    (tie.spec ended-requires refused-requires returns access-requires ended-requires-2 refused-requires-2 returns-2
+    with-tries-requires flagged-requires granted-requires returns-3)

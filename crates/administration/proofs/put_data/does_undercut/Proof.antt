@@ -1,3 +1,4 @@
+-- `does_undercut`: by its tests.
 use Rattle.commands_spec.specs.PutData.{undercuts}
 use Rattle.octets.proofs.Rules.{rules}
 use Rattle.administration.proofs.put_data.does_undercut.Statement.{statement}

@@ -1,3 +1,4 @@
+-- `is_locked`: by its tests.
 use Rattle.commands_spec.specs.PutData.{locked}
 use Rattle.octets.proofs.Rules.{rules}
 use Rattle.administration.proofs.put_data.is_locked.Statement.{statement}

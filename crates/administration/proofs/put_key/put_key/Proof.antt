@@ -1,3 +1,4 @@
+-- `put_key`: by its test.
 use Rattle.commands_spec.specs.PutKey.{putKeyOf, putKeyStatus}
 use Rattle.commands_spec.specs.Outcomes.{decided}
 use borrow.Author.Tests.{lt-ltb, le-ltb}
@@ -31,11 +32,4 @@ returns-2 c = rw (← c .before .before .before .access .ensures, le-ltb _ _ (c 
 pub put-key-spec : {M : Type 1} → statement M
 put-key-spec =
     tie.close
-    (tie.spec
-    ended-requires
-    access-requires
-    refused-requires
-    returns
-    rekeyed-requires
-    granted-requires
-    returns-2)
+    (tie.spec ended-requires access-requires refused-requires returns rekeyed-requires granted-requires returns-2)

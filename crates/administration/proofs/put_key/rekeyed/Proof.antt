@@ -1,3 +1,4 @@
+-- `rekeyed`: its callees, in their order.
 use borrow.Author.Needs.{needs}
 use Rattle.administration.proofs.put_key.rekeyed.Statement.{statement}
 use Rattle.administration.proofs.put_key.rekeyed.Tie as tie
@@ -11,8 +12,11 @@ dek-of-requires c κs = search needs
 received48-requires : tie.Need-received48-requires
 received48-requires c κs = search needs
 
-key-set-requires : tie.Need-key-set-requires
-key-set-requires c κs = search needs
+slice-aggregate-keys-in : tie.Need-slice-aggregate-keys-in
+slice-aggregate-keys-in c = search needs
+
+keys-in-requires : tie.Need-keys-in-requires
+keys-in-requires c κs = search needs
 
 with-keys-requires : tie.Need-with-keys-requires
 with-keys-requires c κs = search needs
@@ -20,20 +24,15 @@ with-keys-requires c κs = search needs
 returns : tie.Need-returns
 returns c =
     rw (
-      ← c .before .before .before .before .set-of .ensures,
-      ← c .before .before .before .dek-of .ensures,
-      ← c .before .before .received48 .ensures,
-      ← c .before .key-set .ensures,
+      ← c .before .before .before .before .before .set-of .ensures,
+      ← c .before .before .before .before .dek-of .ensures,
+      ← c .before .before .before .received48 .ensures,
+      ← c .before .keys-in .ensures,
     )
     (c .with-keys .ensures)
 
 pub rekeyed-spec : {M : Type 1} → statement M
 rekeyed-spec =
     tie.close
-    (tie.spec
-    set-of-requires
-    dek-of-requires
-    received48-requires
-    key-set-requires
-    with-keys-requires
-    returns)
+    (tie.spec set-of-requires dek-of-requires received48-requires slice-aggregate-keys-in keys-in-requires
+    with-keys-requires returns)

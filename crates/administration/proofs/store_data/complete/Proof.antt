@@ -1,3 +1,4 @@
+-- `complete`: by its tests.
 use borrow.Author.Needs.{needs}
 use Rattle.octets.proofs.Rules.{rules}
 use Rattle.commands_spec.specs.StoreData.{complete}
@@ -42,14 +43,5 @@ returns-5 c = search rules depth 24
 pub complete-spec : {M : Type 1} → statement M
 complete-spec =
     tie.close
-    (tie.spec
-    array-read-if1
-    returns
-    array-read-if2
-    returns-2
-    array-read-if3
-    returns-3
-    array-read-if4
-    returns-4
-    array-read-result
-    returns-5)
+    (tie.spec array-read-if1 returns array-read-if2 returns-2 array-read-if3 returns-3 array-read-if4 returns-4
+    array-read-result returns-5)

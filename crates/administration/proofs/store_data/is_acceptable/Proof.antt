@@ -1,3 +1,4 @@
+-- `is_acceptable`: by its tests.
 use borrow.Author.Needs.{needs}
 use Rattle.octets.proofs.Rules.{rules}
 use Rattle.commands_spec.specs.StoreData.{acceptable}
@@ -28,4 +29,5 @@ returns-4 c = search rules depth 24
 
 pub is-acceptable-spec : {M : Type 1} → statement M
 is-acceptable-spec =
-    tie.close (tie.spec returns returns-2 array-read-if3 returns-3 value-ok-requires returns-4)
+    tie.close
+    (tie.spec returns returns-2 array-read-if3 returns-3 value-ok-requires returns-4)

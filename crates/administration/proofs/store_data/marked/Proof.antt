@@ -1,3 +1,4 @@
+-- `marked`: a tag past the array changes nothing.
 use mathlib.Core.Path.{_≡_, sym}
 use native.Mathlib.Omega.{arith}
 use borrow.Author.Needs.{needs}

@@ -1,3 +1,4 @@
+-- `personalized`: the parameters with one of them replaced.
 use borrow.Author.Needs.{needs}
 use Rattle.commands_spec.specs.StoreData.{personalized}
 use Rattle.administration.proofs.store_data.personalized.Statement.{statement}

@@ -1,3 +1,4 @@
+-- `store_status`: by its tests.
 use Rattle.commands_spec.specs.StoreData.{storeStatus}
 use Rattle.octets.proofs.Rules.{rules}
 use Rattle.administration.proofs.store_data.store_status.Statement.{statement}

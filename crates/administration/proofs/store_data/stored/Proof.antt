@@ -1,3 +1,4 @@
+-- `stored`: by whether the TLV is acceptable.
 use mathlib.Core.Bool.{true, false}
 use mathlib.Core.Path.{_≡_}
 use borrow.Author.Needs.{needs}
@@ -9,15 +10,15 @@ use Rattle.administration.proofs.store_data.stored.Tie as tie
 is-acceptable-requires : tie.Need-is-acceptable-requires
 is-acceptable-requires c κs = search needs
 
-spoiled-requires : tie.Need-spoiled-requires
-spoiled-requires c κs = search needs
+rejected-requires : tie.Need-rejected-requires
+rejected-requires c κs = search needs
 
 returns : tie.Need-returns
 unfolding stored
 returns c =
     let q = c .before .before .is-acceptable in
     let e : q .result ≡ false = not-true (q .result) (c .before .if1 .taken) in
-    rw (← q .ensures, e) (c .spoiled .ensures)
+    rw (← q .ensures, e) (c .rejected .ensures)
 
 marked-requires : tie.Need-marked-requires
 marked-requires c κs = search needs
@@ -35,10 +36,4 @@ returns-2 c =
 pub stored-spec : {M : Type 1} → statement M
 stored-spec =
     tie.close
-    (tie.spec
-    is-acceptable-requires
-    spoiled-requires
-    returns
-    marked-requires
-    datum-set-requires
-    returns-2)
+    (tie.spec is-acceptable-requires rejected-requires returns marked-requires datum-set-requires returns-2)

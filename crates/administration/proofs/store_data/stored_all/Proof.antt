@@ -1,3 +1,4 @@
+-- `stored_all`: what the whole data comes to, the turns that are left come to.
 use Prim.Native.Nat.{ℕ, _+_, _-_, _≤_}
 use mathlib.Core.Path.{_≡_, refl, sym, _∙_}
 use native.Mathlib.Omega.{arith}
@@ -73,21 +74,6 @@ returns-2 c =
 pub stored-all-spec : {M : Type 1} → statement M
 stored-all-spec =
     tie.close
-    (tie.spec
-    Inv-loop
-    μ-loop
-    loop-holds
-    sub-if1
-    returns
-    add-start
-    add-end-of
-    shared-slice-read-end-of
-    end-of-requires
-    shared-slice-read-stored
-    sub-stored
-    part-stored-start
-    part-stored-end
-    stored-requires
-    loop-less
-    loop-again
+    (tie.spec Inv-loop μ-loop loop-holds sub-if1 returns add-start add-end-of shared-slice-read-end-of end-of-requires
+    shared-slice-read-stored sub-stored part-stored-start part-stored-end stored-requires loop-less loop-again
     returns-2)

@@ -1,3 +1,4 @@
+-- `within`: what holds of the whole data, holds of what is left.
 use Prim.Native.Nat.{ℕ, _+_, _-_, _≤_}
 use mathlib.Core.Path.{_≡_, refl, sym, _∙_}
 use native.Mathlib.Omega.{arith}
@@ -72,20 +73,5 @@ returns-3 c =
 pub within-spec : {M : Type 1} → statement M
 within-spec =
     tie.close
-    (tie.spec
-    Inv-loop
-    μ-loop
-    loop-holds
-    sub-if1
-    returns
-    add-size
-    shared-slice-read-size
-    cast-size
-    sub-if2
-    sub-if2-2
-    returns-2
-    add-at
-    add-at-2
-    loop-less
-    loop-again
-    returns-3)
+    (tie.spec Inv-loop μ-loop loop-holds sub-if1 returns add-size shared-slice-read-size cast-size sub-if2 sub-if2-2
+    returns-2 add-at add-at-2 loop-less loop-again returns-3)

@@ -26,10 +26,5 @@ returns c = rw (← c .before .may-run .ensures, ← c .before .before .plain-le
 pub plain-status-spec : {M : Type 1} → statement M
 plain-status-spec =
     tie.close
-    (tie.spec
-    plain-parameters-requires
-    has-record-requires
-    plain-length-requires
-    may-run-requires
-    early-status-requires
-    returns)
+    (tie.spec plain-parameters-requires has-record-requires plain-length-requires may-run-requires
+    early-status-requires returns)

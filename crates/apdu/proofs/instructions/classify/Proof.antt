@@ -40,13 +40,5 @@ returns-5 c = simp (ne-eqb _ _ (c .match .rest .1), ne-eqb _ _ (c .match .rest .
 pub classify-spec : {M : Type 1} → statement M
 classify-spec =
     tie.close
-    (tie.spec
-    of-00-requires
-    of-80-requires
-    of-84-requires
-    of-94-requires
-    returns
-    returns-2
-    returns-3
-    returns-4
+    (tie.spec of-00-requires of-80-requires of-84-requires of-94-requires returns returns-2 returns-3 returns-4
     returns-5)

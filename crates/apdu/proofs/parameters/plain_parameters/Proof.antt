@@ -82,25 +82,6 @@ returns-11 c = rw (c .enum-told6 .given .1) (search rules depth 24)
 pub plain-parameters-spec : {M : Type 1} → statement M
 plain-parameters-spec =
     tie.close
-    (tie.spec
-    enum-told
-    are-requires
-    enum-told-2
-    returns
-    is-set-requires
-    enum-told-3
-    returns-2
-    enum-told-4
-    are-requires-2
-    enum-told-5
-    returns-3
-    is-tag-requires
-    enum-told-6
-    returns-4
-    returns-5
-    returns-6
-    returns-7
-    returns-8
-    returns-9
-    returns-10
-    returns-11)
+    (tie.spec enum-told are-requires enum-told-2 returns is-set-requires enum-told-3 returns-2 enum-told-4
+    are-requires-2 enum-told-5 returns-3 is-tag-requires enum-told-6 returns-4 returns-5 returns-6 returns-7 returns-8
+    returns-9 returns-10 returns-11)

@@ -85,25 +85,6 @@ returns-10 c = rw (c .before .before .enum-told6 .given .1) (search rules depth 
 pub signed-parameters-spec : {M : Type 1} → statement M
 signed-parameters-spec =
     tie.close
-    (tie.spec
-    enum-told
-    returns
-    is-set-requires
-    enum-told-2
-    are-requires
-    enum-told-3
-    are-requires-2
-    enum-told-4
-    returns-2
-    enum-told-5
-    are-requires-3
-    enum-told-6
-    returns-3
-    is-tag-requires
-    returns-4
-    returns-5
-    returns-6
-    returns-7
-    returns-8
-    returns-9
-    returns-10)
+    (tie.spec enum-told returns is-set-requires enum-told-2 are-requires enum-told-3 are-requires-2 enum-told-4
+    returns-2 enum-told-5 are-requires-3 enum-told-6 returns-3 is-tag-requires returns-4 returns-5 returns-6 returns-7
+    returns-8 returns-9 returns-10)

@@ -60,19 +60,5 @@ returns-6 c = search rules depth 24
 pub parse-spec : {M : Type 1} → statement M
 parse-spec =
     tie.close
-    (tie.spec
-    returns
-    shared-slice-read-t7
-    shared-slice-read-t9
-    shared-slice-read-t11
-    shared-slice-read-lc
-    returns-2
-    shared-slice-read-lc-2
-    returns-3
-    cast-if4
-    add-if4
-    returns-4
-    cast-if5
-    add-if5
-    returns-5
-    returns-6)
+    (tie.spec returns shared-slice-read-t7 shared-slice-read-t9 shared-slice-read-t11 shared-slice-read-lc returns-2
+    shared-slice-read-lc-2 returns-3 cast-if4 add-if4 returns-4 cast-if5 add-if5 returns-5 returns-6)

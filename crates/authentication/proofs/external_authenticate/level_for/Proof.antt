@@ -1,3 +1,4 @@
+-- `level_for`: by its test.
 use Rattle.octets.proofs.Rules.{rules}
 use Rattle.commands_spec.specs.ExternalAuthenticate.{levelFor}
 use Rattle.authentication.proofs.external_authenticate.level_for.Statement.{statement}

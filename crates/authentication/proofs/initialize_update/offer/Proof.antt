@@ -1,3 +1,4 @@
+-- `offer`: its callees, in their order.
 use borrow.Author.Needs.{needs}
 use Rattle.commands_spec.specs.InitializeUpdate.{offer}
 use Rattle.authentication.proofs.initialize_update.offer.Statement.{statement}
@@ -18,6 +19,4 @@ returns c =
     rw (c .host-cryptogram .ensures, c .before .session-key2 .ensures, c .before .before .session-key .ensures)
 
 pub offer-spec : {M : Type 1} → statement M
-offer-spec =
-    tie.close
-    (tie.spec session-key-requires session-key-requires-2 host-cryptogram-requires returns)
+offer-spec = tie.close (tie.spec session-key-requires session-key-requires-2 host-cryptogram-requires returns)

@@ -1,3 +1,4 @@
+-- `update_answer`: the buffer holds its three pieces.
 use mathlib.Core.Path.{_≡_, refl}
 use native.Mathlib.Omega.{arith}
 use borrow.Author.Needs.{needs}
@@ -46,11 +47,5 @@ returns c =
 pub update-answer-spec : {M : Type 1} → statement M
 update-answer-spec =
     tie.close
-    (tie.spec
-    card-cryptogram-requires
-    empty-requires
-    slice-aggregate-append
-    append-requires
-    append8-requires
-    append8-requires-2
-    returns)
+    (tie.spec card-cryptogram-requires empty-requires slice-aggregate-append append-requires append8-requires
+    append8-requires-2 returns)

@@ -28,11 +28,4 @@ returns c = search needs
 pub finish-spec : {M : Type 1} → statement M
 finish-spec =
     tie.close
-    (tie.spec
-    last-line-requires
-    sub-write
-    part-write-start
-    part-write-end
-    write-requires
-    same-length
-    returns)
+    (tie.spec last-line-requires sub-write part-write-start part-write-end write-requires same-length returns)

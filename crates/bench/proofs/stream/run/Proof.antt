@@ -55,19 +55,6 @@ returns-2 c = search needs
 pub run-spec : {M : Type 1} → statement M
 run-spec =
     tie.close
-    (tie.spec
-    Inv-loop
-    μ-loop
-    large-buffer-requires
-    large-buffer-requires-2
-    unselected-requires
-    loop-holds
-    slice-aggregate-read-piece
-    slice-aggregate-read-piece-2
-    slice-aggregate-read-piece-3
-    read-piece-requires
-    sub-turns
-    loop-less
-    loop-again
-    returns
-    returns-2)
+    (tie.spec Inv-loop μ-loop large-buffer-requires large-buffer-requires-2 unselected-requires loop-holds
+    slice-aggregate-read-piece slice-aggregate-read-piece-2 slice-aggregate-read-piece-3 read-piece-requires sub-turns
+    loop-less loop-again returns returns-2)

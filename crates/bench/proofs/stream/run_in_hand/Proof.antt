@@ -43,13 +43,4 @@ returns c =
 pub run-in-hand-spec : {M : Type 1} → statement M
 run-in-hand-spec =
     tie.close
-    (tie.spec
-    Inv-loop
-    μ-loop
-    loop-holds
-    turn-requires
-    loop-less
-    loop-again
-    same-length
-    same-length-2
-    returns)
+    (tie.spec Inv-loop μ-loop loop-holds turn-requires loop-less loop-again same-length same-length-2 returns)

@@ -36,13 +36,5 @@ returns c = piece-run _ _ _ _ _ _ _ (c .before .before .before .before .before .
 pub run-piece-spec : {M : Type 1} → statement M
 run-piece-spec =
     tie.close
-    (tie.spec
-    sub-run-in-hand
-    part-run-in-hand-start
-    part-run-in-hand-end
-    run-in-hand-requires
-    keep-requires
-    same-length
-    same-length-2
-    same-length-3
-    returns)
+    (tie.spec sub-run-in-hand part-run-in-hand-start part-run-in-hand-end run-in-hand-requires keep-requires
+    same-length same-length-2 same-length-3 returns)

@@ -55,18 +55,5 @@ returns c =
 pub turn-spec : {M : Type 1} → statement M
 turn-spec =
     tie.close
-    (tie.spec
-    sub-turn
-    part-turn-start
-    part-turn-end
-    turn-requires
-    sub-write
-    part-write-start
-    part-write-end
-    write-requires
-    add-t15
-    again-requires
-    goes-on-requires
-    same-length
-    same-length-2
-    returns)
+    (tie.spec sub-turn part-turn-start part-turn-end turn-requires sub-write part-write-start part-write-end
+    write-requires add-t15 again-requires goes-on-requires same-length same-length-2 returns)

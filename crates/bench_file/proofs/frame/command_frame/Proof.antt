@@ -54,19 +54,6 @@ returns c =
 pub command-frame-spec : {M : Type 1} → statement M
 command-frame-spec =
     tie.close
-    (tie.spec
-    word-at-requires
-    cast-limit
-    sub-command
-    part-command-start
-    part-command-end
-    sub-command-2
-    part-command-start-2
-    part-command-end-2
-    slice-aggregate-command
-    command-requires
-    slice-aggregate-responded
-    responded-requires
-    same-length
-    same-length-2
-    returns)
+    (tie.spec word-at-requires cast-limit sub-command part-command-start part-command-end sub-command-2
+    part-command-start-2 part-command-end-2 slice-aggregate-command command-requires slice-aggregate-responded
+    responded-requires same-length same-length-2 returns)

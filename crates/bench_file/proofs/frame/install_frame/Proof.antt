@@ -39,14 +39,5 @@ returns c =
 pub install-frame-spec : {M : Type 1} → statement M
 install-frame-spec =
     tie.close
-    (tie.spec
-    word-at-requires
-    cast-limit
-    sub-install
-    part-install-start
-    part-install-end
-    install-requires
-    answered-requires
-    same-length
-    same-length-2
-    returns)
+    (tie.spec word-at-requires cast-limit sub-install part-install-start part-install-end install-requires
+    answered-requires same-length same-length-2 returns)

@@ -45,15 +45,5 @@ returns-2 c =
 pub responded-spec : {M : Type 1} → statement M
 responded-spec =
     tie.close
-    (tie.spec
-    answered-requires
-    same-length
-    returns
-    least-requires
-    sub-response-line
-    part-response-line-start
-    part-response-line-end
-    response-line-requires
-    session-after-requires
-    same-length-2
-    returns-2)
+    (tie.spec answered-requires same-length returns least-requires sub-response-line part-response-line-start
+    part-response-line-end response-line-requires session-after-requires same-length-2 returns-2)

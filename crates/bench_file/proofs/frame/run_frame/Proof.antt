@@ -62,21 +62,6 @@ returns-3 c =
 pub run-frame-spec : {M : Type 1} → statement M
 run-frame-spec =
     tie.close
-    (tie.spec
-    byte-at-requires
-    frame-size-requires
-    sub-d
-    part-d-start
-    part-d-end
-    install-frame-requires
-    start-frame-requires
-    command-frame-requires
-    same-length
-    same-length-2
-    returns
-    same-length-3
-    same-length-4
-    returns-2
-    same-length-5
-    same-length-6
-    returns-3)
+    (tie.spec byte-at-requires frame-size-requires sub-d part-d-start part-d-end install-frame-requires
+    start-frame-requires command-frame-requires same-length same-length-2 returns same-length-3 same-length-4
+    returns-2 same-length-5 same-length-6 returns-3)

@@ -28,11 +28,4 @@ returns c = start-runs _ _ _ _ _ _ _ _ _ _ (c .before .before .before .before .b
 pub start-frame-spec : {M : Type 1} → statement M
 start-frame-spec =
     tie.close
-    (tie.spec
-    word-at-requires
-    cast-limit
-    start-up-requires
-    answered-requires
-    same-length
-    same-length-2
-    returns)
+    (tie.spec word-at-requires cast-limit start-up-requires answered-requires same-length same-length-2 returns)

@@ -77,23 +77,6 @@ returns c =
 pub put-hex-spec : {M : Type 1} → statement M
 put-hex-spec =
     tie.close
-    (tie.spec
-    Inv-loop
-    μ-loop
-    loop-holds
-    shared-slice-read-digit
-    digit-requires
-    mul-output
-    add-output
-    slice-write-output
-    shared-slice-read-digit-2
-    digit-requires-2
-    mul-output-2
-    add-output-2
-    add-output-3
-    slice-write-output-2
-    add-i
-    loop-less
-    loop-again
-    same-length
-    returns)
+    (tie.spec Inv-loop μ-loop loop-holds shared-slice-read-digit digit-requires mul-output add-output
+    slice-write-output shared-slice-read-digit-2 digit-requires-2 mul-output-2 add-output-2 add-output-3
+    slice-write-output-2 add-i loop-less loop-again same-length returns)

@@ -48,17 +48,5 @@ returns c =
 pub response-line-spec : {M : Type 1} → statement M
 response-line-spec =
     tie.close
-    (tie.spec
-    slice-aggregate-paste
-    paste-requires
-    add-put-hex
-    put-hex-requires
-    add-paste
-    mul-paste
-    add-paste-2
-    slice-aggregate-paste-2
-    paste-requires-2
-    mul-result
-    add-result
-    same-length
-    returns)
+    (tie.spec slice-aggregate-paste paste-requires add-put-hex put-hex-requires add-paste mul-paste add-paste-2
+    slice-aggregate-paste-2 paste-requires-2 mul-result add-result same-length returns)

@@ -49,14 +49,5 @@ returns c = going-done bench fitting _ _ _ _ _ _ _ (c .before .before .loop .inv
 pub batch-spec : {M : Type 1} → statement M
 batch-spec =
     tie.close
-    (tie.spec
-    Inv-loop
-    μ-loop
-    loop-holds
-    goes-on-requires
-    step-requires
-    loop-less
-    loop-again
-    same-length
-    same-length-2
+    (tie.spec Inv-loop μ-loop loop-holds goes-on-requires step-requires loop-less loop-again same-length same-length-2
     returns)

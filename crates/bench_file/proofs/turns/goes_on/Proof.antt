@@ -41,12 +41,5 @@ returns-2 c b =
 pub goes-on-spec : {M : Type 1} → statement M
 goes-on-spec =
     tie.close
-    (tie.spec
-    has-room-requires
-    returns
-    sub-front-of
-    part-front-of-start
-    part-front-of-end
-    front-of-requires
-    is-frame-requires
-    returns-2)
+    (tie.spec has-room-requires returns sub-front-of part-front-of-start part-front-of-end front-of-requires
+    is-frame-requires returns-2)

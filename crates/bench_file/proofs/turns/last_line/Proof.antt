@@ -24,8 +24,4 @@ returns-2 c b = rw (ne-eqb _ _ (c .before .before .before .before .if1 .left)) (
 pub last-line-spec : {M : Type 1} → statement M
 last-line-spec =
     tie.close
-    (tie.spec
-    returns
-    malformed-line-requires
-    same-length
-    returns-2)
+    (tie.spec returns malformed-line-requires same-length returns-2)

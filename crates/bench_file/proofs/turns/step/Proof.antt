@@ -53,14 +53,5 @@ returns c =
 pub step-spec : {M : Type 1} → statement M
 step-spec =
     tie.close
-    (tie.spec
-    sub-rest
-    part-rest-start
-    part-rest-end
-    frame-size-requires
-    run-frame-requires
-    add-t12
-    add-t18
-    same-length
-    same-length-2
-    returns)
+    (tie.spec sub-rest part-rest-start part-rest-end frame-size-requires run-frame-requires add-t12 add-t18
+    same-length same-length-2 returns)

@@ -74,22 +74,6 @@ returns-3 c =
 pub turn-spec : {M : Type 1} → statement M
 turn-spec =
     tie.close
-    (tie.spec
-    batch-requires
-    sub-if1
-    same-length
-    same-length-2
-    returns
-    sub-front-of
-    part-front-of-start
-    part-front-of-end
-    front-of-requires
-    is-malformed-requires
-    malformed-line-requires
-    add-t25
-    same-length-3
-    same-length-4
-    returns-2
-    same-length-5
-    same-length-6
-    returns-3)
+    (tie.spec batch-requires sub-if1 same-length same-length-2 returns sub-front-of part-front-of-start
+    part-front-of-end front-of-requires is-malformed-requires malformed-line-requires add-t25 same-length-3
+    same-length-4 returns-2 same-length-5 same-length-6 returns-3)

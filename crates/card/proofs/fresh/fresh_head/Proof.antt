@@ -1,3 +1,4 @@
+-- `fresh_head`: the struct of its parts.
 use Rattle.card.specs.Card.{freshHead}
 use borrow.Author.Needs.{needs}
 use Rattle.card.proofs.fresh.fresh_head.Statement.{statement}

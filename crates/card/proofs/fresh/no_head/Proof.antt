@@ -1,8 +1,10 @@
-use mathlib.Core.Path.{ap, _∙_}
-use Rattle.card.specs.Card.{noFixed, freshHead}
+-- `no_head`: the fresh head of an AID and keys of zeros.
 use borrow.Author.Needs.{needs}
 use Rattle.card.proofs.fresh.no_head.Statement.{statement}
 use Rattle.card.proofs.fresh.no_head.Tie as tie
+
+no-aid-requires : tie.Need-no-aid-requires
+no-aid-requires c κs = search needs
 
 no-keys-requires : tie.Need-no-keys-requires
 no-keys-requires c κs = search needs
@@ -11,7 +13,7 @@ fresh-head-requires : tie.Need-fresh-head-requires
 fresh-head-requires c κs = search needs
 
 returns : tie.Need-returns
-returns c = c .fresh-head .ensures ∙ ap (freshHead noFixed) (c .before .no-keys .ensures)
+returns c = rw (← c .before .no-keys .ensures, ← c .before .before .no-aid .ensures) (c .fresh-head .ensures)
 
 pub no-head-spec : {M : Type 1} → statement M
-no-head-spec = tie.close (tie.spec no-keys-requires fresh-head-requires returns)
+no-head-spec = tie.close (tie.spec no-aid-requires no-keys-requires fresh-head-requires returns)

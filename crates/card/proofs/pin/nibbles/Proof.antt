@@ -67,18 +67,5 @@ returns c =
 pub nibbles-spec : {M : Type 1} → statement M
 nibbles-spec =
     tie.close
-    (tie.spec
-    Inv-loop
-    μ-loop
-    loop-holds
-    array-read-l
-    mul-l
-    array-write-l
-    array-read-l-2
-    mul-l-2
-    add-l
-    array-write-l-2
-    add-i
-    loop-less
-    loop-again
-    returns)
+    (tie.spec Inv-loop μ-loop loop-holds array-read-l mul-l array-write-l array-read-l-2 mul-l-2 add-l array-write-l-2
+    add-i loop-less loop-again returns)

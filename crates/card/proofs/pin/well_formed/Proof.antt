@@ -1,3 +1,4 @@
+-- `well_formed`: too long a PIN, or the tests in a row over the nibbles.
 use mathlib.Core.Path.{_≡_}
 use lib.ListN.{length}
 use Rattle.card.proofs.Turns.{ill-formed, formed-by}
@@ -23,29 +24,29 @@ cast-at c = search needs
 add-at : tie.Need-add-at
 add-at c = search needs
 
-sub-within : tie.Need-sub-within
-sub-within c = search needs
+sub-between : tie.Need-sub-between
+sub-between c = search needs
 
-part-within-start : tie.Need-part-within-start
-part-within-start c = search needs
+part-between-start : tie.Need-part-between-start
+part-between-start c = search needs
 
-part-within-end : tie.Need-part-within-end
-part-within-end c = search needs
+part-between-end : tie.Need-part-between-end
+part-between-end c = search needs
 
-within-requires : tie.Need-within-requires
-within-requires c κs = search needs
+between-requires : tie.Need-between-requires
+between-requires c κs = search needs
 
-sub-within-2 : tie.Need-sub-within-2
-sub-within-2 c = search needs
+sub-between-2 : tie.Need-sub-between-2
+sub-between-2 c = search needs
 
-part-within-start-2 : tie.Need-part-within-start-2
-part-within-start-2 c = search needs
+part-between-start-2 : tie.Need-part-between-start-2
+part-between-start-2 c = search needs
 
-part-within-end-2 : tie.Need-part-within-end-2
-part-within-end-2 c = search needs
+part-between-end-2 : tie.Need-part-between-end-2
+part-between-end-2 c = search needs
 
-within-requires-2 : tie.Need-within-requires-2
-within-requires-2 c κs = search needs
+between-requires-2 : tie.Need-between-requires-2
+between-requires-2 c κs = search needs
 
 slice-aggregate-all-true : tie.Need-slice-aggregate-all-true
 slice-aggregate-all-true c = search needs
@@ -59,26 +60,11 @@ returns-2 c =
     let v = w .before .before .before in
     let l = v .before .before .before .before .nibbles in
     let e : length (l .result) ≡ 16 = search needs in
-    formed-by _ _ (l .ensures) _ _ _ e (v .within .ensures) (w .within2 .ensures) (c .all-true .ensures)
+    formed-by _ _ (l .ensures) _ _ _ e (v .between .ensures) (w .between2 .ensures) (c .all-true .ensures)
 
 pub well-formed-spec : {M : Type 1} → statement M
 well-formed-spec =
     tie.close
-    (tie.spec
-    nibbles-requires
-    array-read-first
-    array-read-n
-    returns
-    cast-at
-    add-at
-    sub-within
-    part-within-start
-    part-within-end
-    within-requires
-    sub-within-2
-    part-within-start-2
-    part-within-end-2
-    within-requires-2
-    slice-aggregate-all-true
-    all-true-requires
-    returns-2)
+    (tie.spec nibbles-requires array-read-first array-read-n returns cast-at add-at sub-between part-between-start
+    part-between-end between-requires sub-between-2 part-between-start-2 part-between-end-2 between-requires-2
+    slice-aggregate-all-true all-true-requires returns-2)

@@ -1,3 +1,4 @@
+-- `agent_ok`: the tests in a row.
 use Rattle.card.specs.Proper.{agentOk}
 use borrow.Author.Needs.{needs}
 use Rattle.card.proofs.proper.agent_ok.Statement.{statement}
@@ -22,9 +23,4 @@ returns c = rw (← c .before .before .before .before .either .ensures, ← c .b
 pub agent-ok-spec : {M : Type 1} → statement M
 agent-ok-spec =
     tie.close
-    (tie.spec
-    either-requires
-    zero-after-requires
-    slice-aggregate-all-true
-    all-true-requires
-    returns)
+    (tie.spec either-requires zero-after-requires slice-aggregate-all-true all-true-requires returns)

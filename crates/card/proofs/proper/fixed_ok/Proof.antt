@@ -1,10 +1,8 @@
+-- `fixed_ok`: the tests in a row.
 use Rattle.card.specs.Proper.{fixedTests}
 use borrow.Author.Needs.{needs}
 use Rattle.card.proofs.proper.fixed_ok.Statement.{statement}
 use Rattle.card.proofs.proper.fixed_ok.Tie as tie
-
-zero-after-requires : tie.Need-zero-after-requires
-zero-after-requires c κs = search needs
 
 slice-aggregate-all-true : tie.Need-slice-aggregate-all-true
 slice-aggregate-all-true c = search needs
@@ -14,8 +12,7 @@ all-true-requires c κs = search needs
 
 returns : tie.Need-returns
 unfolding fixedTests
-returns c = rw (← c .before .before .before .before .before .before .zero-after .ensures) (c .all-true .ensures)
+returns c = c .all-true .ensures
 
 pub fixed-ok-spec : {M : Type 1} → statement M
-fixed-ok-spec =
-    tie.close (tie.spec zero-after-requires slice-aggregate-all-true all-true-requires returns)
+fixed-ok-spec = tie.close (tie.spec slice-aggregate-all-true all-true-requires returns)

@@ -1,7 +1,12 @@
+-- `keys_ok`: defined, or zeros.
 use Rattle.card.specs.Proper.{keysOk}
 use borrow.Author.Needs.{needs}
 use Rattle.card.proofs.proper.keys_ok.Statement.{statement}
 use Rattle.card.proofs.proper.keys_ok.Tie as tie
+
+returns : tie.Need-returns
+unfolding keysOk
+returns c = rw (c .if1 .taken)
 
 slice-aggregate-all-zero : tie.Need-slice-aggregate-all-zero
 slice-aggregate-all-zero c = search needs
@@ -27,24 +32,15 @@ slice-aggregate-all-true c = search needs
 all-true-requires : tie.Need-all-true-requires
 all-true-requires c κs = search needs
 
-either-requires : tie.Need-either-requires
-either-requires c κs = search needs
-
-returns : tie.Need-returns
+returns-2 : tie.Need-returns-2
 unfolding keysOk
-returns c = rw (← c .before .before .before .before .before .before .before .all-zero .ensures, ← c .before .before .before .before .before .all-zero2 .ensures, ← c .before .before .before .all-zero3 .ensures, ← c .before .all-true .ensures) (c .either .ensures)
+returns-2 c =
+    let x = c .before .before in
+    rw (x .before .before .before .before .before .before .before .before .before .before .if1 .left, ← x .before .before .before .before .all-zero .ensures, ← x .before .before .all-zero2 .ensures, ← x .all-zero3 .ensures)
+    (c .all-true .ensures)
 
 pub keys-ok-spec : {M : Type 1} → statement M
 keys-ok-spec =
     tie.close
-    (tie.spec
-    slice-aggregate-all-zero
-    all-zero-requires
-    slice-aggregate-all-zero-2
-    all-zero-requires-2
-    slice-aggregate-all-zero-3
-    all-zero-requires-3
-    slice-aggregate-all-true
-    all-true-requires
-    either-requires
-    returns)
+    (tie.spec returns slice-aggregate-all-zero all-zero-requires slice-aggregate-all-zero-2 all-zero-requires-2
+    slice-aggregate-all-zero-3 all-zero-requires-3 slice-aggregate-all-true all-true-requires returns-2)

@@ -1,3 +1,4 @@
+-- `parameters_ok`: the tests in a row.
 use Rattle.card.specs.Proper.{parameterTests}
 use borrow.Author.Needs.{needs}
 use Rattle.card.proofs.proper.parameters_ok.Statement.{statement}
@@ -9,11 +10,8 @@ bank-ok-requires c κs = search needs
 agent-ok-requires : tie.Need-agent-ok-requires
 agent-ok-requires c κs = search needs
 
-unset-requires : tie.Need-unset-requires
-unset-requires c κs = search needs
-
-either-requires : tie.Need-either-requires
-either-requires c κs = search needs
+unset-ok-requires : tie.Need-unset-ok-requires
+unset-ok-requires c κs = search needs
 
 slice-aggregate-all-true : tie.Need-slice-aggregate-all-true
 slice-aggregate-all-true c = search needs
@@ -23,16 +21,9 @@ all-true-requires c κs = search needs
 
 returns : tie.Need-returns
 unfolding parameterTests
-returns c = rw (← c .before .before .before .before .before .bank-ok .ensures, ← c .before .before .before .before .agent-ok .ensures, ← c .before .before .before .unset .ensures, ← c .before .before .either .ensures) (c .all-true .ensures)
+returns c = rw (← c .before .before .unset-ok .ensures, ← c .before .before .before .agent-ok .ensures, ← c .before .before .before .before .bank-ok .ensures) (c .all-true .ensures)
 
 pub parameters-ok-spec : {M : Type 1} → statement M
 parameters-ok-spec =
     tie.close
-    (tie.spec
-    bank-ok-requires
-    agent-ok-requires
-    unset-requires
-    either-requires
-    slice-aggregate-all-true
-    all-true-requires
-    returns)
+    (tie.spec bank-ok-requires agent-ok-requires unset-ok-requires slice-aggregate-all-true all-true-requires returns)

@@ -1,3 +1,4 @@
+-- `pin_ok`: a well-formed block, or zeros.
 use Rattle.card.specs.Proper.{pinOk}
 use borrow.Author.Needs.{needs}
 use Rattle.card.proofs.proper.pin_ok.Statement.{statement}

@@ -1,3 +1,4 @@
+-- `state_ok`: the tests in a row.
 use Rattle.card.specs.Proper.{stateTests}
 use borrow.Author.Needs.{needs}
 use Rattle.card.proofs.proper.state_ok.Statement.{statement}

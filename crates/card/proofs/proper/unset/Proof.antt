@@ -1,3 +1,4 @@
+-- `unset`: the tests in a row.
 use Rattle.card.specs.Proper.{unset}
 use borrow.Author.Needs.{needs}
 use Rattle.card.proofs.proper.unset.Statement.{statement}
@@ -22,9 +23,4 @@ returns c = rw (← c .before .before .before .before .before .before .before .a
 pub unset-spec : {M : Type 1} → statement M
 unset-spec =
     tie.close
-    (tie.spec
-    slice-aggregate-all-zero
-    all-zero-requires
-    slice-aggregate-all-true
-    all-true-requires
-    returns)
+    (tie.spec slice-aggregate-all-zero all-zero-requires slice-aggregate-all-true all-true-requires returns)

@@ -1,3 +1,4 @@
+-- `zero_after`: nothing is left past the end, else the rest is zero.
 use Prim.Native.Nat.{_-_, _≤_}
 use mathlib.Core.Path.{_≡_, ap, _∙_}
 use native.Mathlib.Omega.{arith}

@@ -38,10 +38,4 @@ returns c =
 pub both-spec : {M : Type 1} → statement M
 both-spec =
     tie.close
-    (tie.spec
-    empty-requires
-    append8-requires
-    append8-requires-2
-    slice-aggregate-part16
-    part16-requires
-    returns)
+    (tie.spec empty-requires append8-requires append8-requires-2 slice-aggregate-part16 part16-requires returns)

@@ -76,20 +76,6 @@ returns c =
 pub derivation-spec : {M : Type 1} → statement M
 derivation-spec =
     tie.close
-    (tie.spec
-    empty-requires
-    slice-aggregate-part4
-    part4-requires
-    append4-requires
-    slice-aggregate-part4-2
-    part4-requires-2
-    append4-requires-2
-    slice-aggregate-part4-3
-    part4-requires-3
-    append4-requires-3
-    slice-aggregate-part4-4
-    part4-requires-4
-    append4-requires-4
-    slice-aggregate-part16
-    part16-requires
-    returns)
+    (tie.spec empty-requires slice-aggregate-part4 part4-requires append4-requires slice-aggregate-part4-2
+    part4-requires-2 append4-requires-2 slice-aggregate-part4-3 part4-requires-3 append4-requires-3
+    slice-aggregate-part4-4 part4-requires-4 append4-requires-4 slice-aggregate-part16 part16-requires returns)

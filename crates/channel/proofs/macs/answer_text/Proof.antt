@@ -75,17 +75,6 @@ returns c =
 pub answer-text-spec : {M : Type 1} → statement M
 answer-text-spec =
     tie.close
-    (tie.spec
-    size-requires
-    slice-aggregate-paste
-    slice-aggregate-paste-2
-    paste-requires
-    slice-aggregate-paste-3
-    array-share-prefix-bytes
-    slice-aggregate-paste-4
-    paste-requires-2
-    slice-aggregate-paste-5
-    add-paste
-    slice-aggregate-paste-6
-    paste-requires-3
-    returns)
+    (tie.spec size-requires slice-aggregate-paste slice-aggregate-paste-2 paste-requires slice-aggregate-paste-3
+    array-share-prefix-bytes slice-aggregate-paste-4 paste-requires-2 slice-aggregate-paste-5 add-paste
+    slice-aggregate-paste-6 paste-requires-3 returns)

@@ -63,11 +63,5 @@ returns c =
 pub rmac-spec : {M : Type 1} → statement M
 rmac-spec =
     tie.close
-    (tie.spec
-    size-requires
-    answer-text-requires
-    add-text
-    array-share-prefix-text
-    slice-aggregate-signature
-    signature-requires
-    returns)
+    (tie.spec size-requires answer-text-requires add-text array-share-prefix-text slice-aggregate-signature
+    signature-requires returns)

@@ -82,28 +82,6 @@ returns-5 c = counts _ _ (search needs)
 pub decode-spec : {M : Type 1} → statement M
 decode-spec =
     tie.close
-    (tie.spec
-    Inv-loop
-    μ-loop
-    returns
-    returns-2
-    loop-holds
-    mul-value
-    shared-slice-read-value
-    value-requires
-    mul-value-2
-    add-value
-    shared-slice-read-value-2
-    value-requires-2
-    same-length
-    returns-3
-    same-length-2
-    returns-4
-    mul-out
-    add-out
-    slice-write-out
-    add-i
-    loop-less
-    loop-again
-    same-length-3
-    returns-5)
+    (tie.spec Inv-loop μ-loop returns returns-2 loop-holds mul-value shared-slice-read-value value-requires
+    mul-value-2 add-value shared-slice-read-value-2 value-requires-2 same-length returns-3 same-length-2 returns-4
+    mul-out add-out slice-write-out add-i loop-less loop-again same-length-3 returns-5)

@@ -49,17 +49,5 @@ returns-2 c = counts _ _ (search needs)
 pub encode-spec : {M : Type 1} → statement M
 encode-spec =
     tie.close
-    (tie.spec
-    Inv-loop
-    μ-loop
-    loop-holds
-    same-length
-    returns
-    shared-slice-read-digit-of
-    digit-of-requires
-    slice-write-out
-    add-i
-    loop-less
-    loop-again
-    same-length-2
-    returns-2)
+    (tie.spec Inv-loop μ-loop loop-holds same-length returns shared-slice-read-digit-of digit-of-requires
+    slice-write-out add-i loop-less loop-again same-length-2 returns-2)

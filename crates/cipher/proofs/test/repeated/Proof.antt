@@ -34,13 +34,5 @@ returns c = search needs
 pub repeated-spec : {M : Type 1} → statement M
 repeated-spec =
     tie.close
-    (tie.spec
-    Inv-loop
-    μ-loop
-    round-keys-requires
-    loop-holds
-    block-under-requires
-    add-counter
-    loop-less
-    loop-again
+    (tie.spec Inv-loop μ-loop round-keys-requires loop-holds block-under-requires add-counter loop-less loop-again
     returns)

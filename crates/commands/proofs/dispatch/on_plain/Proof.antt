@@ -1,7 +1,8 @@
-use mathlib.Core.Path.{sym, _∙_}
-use Rattle.octets.proofs.Rules.{rules}
-use Rattle.commands_spec.specs.Outcomes.{decided}
+-- `on_plain`: the status word of steps 3 to 5 decides.
 use Rattle.commands.proofs.Bodies.{plain-length}
+use Rattle.commands_spec.specs.Outcomes.{decided}
+use Rattle.octets.proofs.Rules.{rules}
+use mathlib.Core.Path.{sym, _∙_}
 use borrow.Author.Needs.{needs}
 use Rattle.commands.proofs.dispatch.on_plain.Statement.{statement}
 use Rattle.commands.proofs.dispatch.on_plain.Tie as tie
@@ -35,10 +36,4 @@ returns-2 c =
 pub on-plain-spec : {M : Type 1} → statement M
 on-plain-spec =
     tie.close
-    (tie.spec
-    plain-status-requires
-    ended-requires
-    refused-requires
-    returns
-    plain-requires
-    returns-2)
+    (tie.spec plain-status-requires ended-requires refused-requires returns plain-requires returns-2)

@@ -1,7 +1,8 @@
-use mathlib.Core.Path.{sym, _∙_}
-use Rattle.octets.proofs.Rules.{rules}
-use Rattle.commands_spec.specs.Outcomes.{decided}
+-- `on_signed`: the status word of steps 3 to 5 decides.
 use Rattle.commands.proofs.Bodies.{signed-length}
+use Rattle.commands_spec.specs.Outcomes.{decided}
+use Rattle.octets.proofs.Rules.{rules}
+use mathlib.Core.Path.{sym, _∙_}
 use borrow.Author.Needs.{needs}
 use Rattle.commands.proofs.dispatch.on_signed.Statement.{statement}
 use Rattle.commands.proofs.dispatch.on_signed.Tie as tie
@@ -23,7 +24,7 @@ returns c =
 
 authorized-requires : tie.Need-authorized-requires
 authorized-requires c κs =
-    let s = c .before .before .before in
+    let s = c .before .before .before .before in
     (s .pre, signed-length _ _ _ (sym (c .before .signed-status .ensures) ∙ c .if1 .left))
 
 returns-2 : tie.Need-returns-2
@@ -35,10 +36,4 @@ returns-2 c =
 pub on-signed-spec : {M : Type 1} → statement M
 on-signed-spec =
     tie.close
-    (tie.spec
-    signed-status-requires
-    ended-requires
-    refused-requires
-    returns
-    authorized-requires
-    returns-2)
+    (tie.spec signed-status-requires ended-requires refused-requires returns authorized-requires returns-2)

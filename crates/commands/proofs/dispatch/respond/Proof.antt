@@ -1,3 +1,4 @@
+-- `respond`: by what the bytes are as a command.
 use Rattle.commands_spec.specs.Respond.{respondTo, onParsed}
 use borrow.Author.Needs.{needs}
 use Rattle.commands.proofs.dispatch.respond.Statement.{statement}
@@ -6,11 +7,11 @@ use Rattle.commands.proofs.dispatch.respond.Tie as tie
 parse-requires : tie.Need-parse-requires
 parse-requires c κs = search needs
 
-enum-known-a : tie.Need-enum-known-a
-enum-known-a c = search needs
+enum-known-header : tie.Need-enum-known-header
+enum-known-header c = search needs
 
 on-command-requires : tie.Need-on-command-requires
-on-command-requires c κs = rw (← c .before .before .before .parse .ensures) (c .before .a .given .1)
+on-command-requires c κs = rw (← c .before .before .before .parse .ensures) (c .before .header .given .1)
 
 enum-told : tie.Need-enum-told
 enum-told c = search needs
@@ -25,7 +26,7 @@ returns : tie.Need-returns
 unfolding respondTo onParsed
 returns c =
     let k = c .before .before in
-    rw (← k .before .before .parse .ensures, k .a .given .1) (c .on-command .ensures)
+    rw (← k .before .before .parse .ensures, k .header .given .1) (c .on-command .ensures)
 
 returns-2 : tie.Need-returns-2
 unfolding respondTo onParsed
@@ -36,12 +37,5 @@ returns-2 c =
 pub respond-spec : {M : Type 1} → statement M
 respond-spec =
     tie.close
-    (tie.spec
-    parse-requires
-    enum-known-a
-    on-command-requires
-    enum-told
-    ended-requires
-    refused-requires
-    returns
+    (tie.spec parse-requires enum-known-header on-command-requires enum-told ended-requires refused-requires returns
     returns-2)

@@ -1,3 +1,4 @@
+-- `select_data`: by whether there are data.
 use Prim.Native.Nat.{_+_, _-_}
 use mathlib.Core.Path.{_≡_}
 use native.Mathlib.Omega.{arith}
@@ -44,15 +45,5 @@ returns-2 c =
 pub select-data-spec : {M : Type 1} → statement M
 select-data-spec =
     tie.close
-    (tie.spec
-    sub-select
-    part-select-start
-    part-select-end
-    select-requires
-    returns
-    add-select
-    sub-select-2
-    part-select-start-2
-    part-select-end-2
-    select-requires-2
-    returns-2)
+    (tie.spec sub-select part-select-start part-select-end select-requires returns add-select sub-select-2
+    part-select-start-2 part-select-end-2 select-requires-2 returns-2)

@@ -1,9 +1,10 @@
-use Prim.Native.Nat.{_-_}
-use mathlib.Core.Path.{refl, sym, _∙_}
-use native.Mathlib.Omega.{arith}
-use borrow.Author.Tests.{not-true, not-false}
-use Rattle.commands.proofs.Bodies.{signed-least, mac-sent}
+-- `authorized`: by its two tests, the channel before any C-MAC is made.
 use Rattle.commands.proofs.Signatures.{unsigned, wrongly-signed, rightly-signed}
+use Rattle.commands.proofs.Bodies.{signed-least, mac-sent}
+use borrow.Author.Tests.{not-true, not-false}
+use native.Mathlib.Omega.{arith}
+use mathlib.Core.Path.{refl, sym, _∙_}
+use Prim.Native.Nat.{_-_}
 use borrow.Author.Needs.{needs}
 use Rattle.commands.proofs.signed.authorized.Statement.{statement}
 use Rattle.commands.proofs.signed.authorized.Tie as tie
@@ -74,6 +75,6 @@ returns-3 c =
 pub authorized-spec : {M : Type 1} → statement M
 authorized-spec =
     tie.close
-    (tie.spec is-open-requires closed-requires refused-requires returns sub-n cast-n add-cmac cmac-requires add-part8 part8-requires
-    slice-aggregate-same slice-aggregate-same-2 same-requires closed-requires-2 refused-requires-2 returns-2 chained-requires signed-requires
-    returns-3)
+    (tie.spec is-open-requires closed-requires refused-requires returns sub-n cast-n add-cmac cmac-requires add-part8
+    part8-requires slice-aggregate-same slice-aggregate-same-2 same-requires closed-requires-2 refused-requires-2
+    returns-2 chained-requires signed-requires returns-3)

@@ -1,11 +1,12 @@
-use Prim.Native.Nat.{_+_, _-_}
-use mathlib.Core.Bool.{true}
-use mathlib.Core.Path.{_≡_}
-use native.Mathlib.Omega.{arith}
-use Rattle.apdu.specs.Lengths.{signedLength, macSize}
-use Rattle.apdu.specs.declared.instructions.Signed.the-variants.{PutKey, PinChange, InitializeTransaction, CompleteTransaction}
-use Rattle.commands_spec.specs.Respond.{signedOf}
+-- `signed`: by the command; its data lie before the C-MAC, and are as long as its length test says.
 use Rattle.commands.proofs.Bodies.{signed-size, signed-least, signed-body, mac-within}
+use Rattle.commands_spec.specs.Respond.{signedOf}
+use Rattle.apdu.specs.declared.instructions.Signed.the-variants.{PutKey, PinChange, InitializeTransaction, CompleteTransaction}
+use Rattle.apdu.specs.Lengths.{signedLength, macSize}
+use native.Mathlib.Omega.{arith}
+use mathlib.Core.Path.{_≡_}
+use mathlib.Core.Bool.{true}
+use Prim.Native.Nat.{_+_, _-_}
 use borrow.Author.Needs.{needs}
 use Rattle.commands.proofs.signed.signed.Statement.{statement}
 use Rattle.commands.proofs.signed.signed.Tie as tie
@@ -24,8 +25,8 @@ enum-told-2 c = search needs
 
 pin-data-requires : tie.Need-pin-data-requires
 pin-data-requires c κs =
-    let s = c .before .before .before in
-    let n : signedLength PinChange (s .args .a .lc) ≡ true = rw (← c .enum-told2 .given .1) (s .pre .1) in
+    let s = c .before .before .before .before in
+    let n : signedLength PinChange (s .args .request .header .lc) ≡ true = rw (← c .enum-told2 .given .1) (s .pre .1) in
     (s .pre .0, n)
 
 enum-told-3 : tie.Need-enum-told-3
@@ -33,7 +34,7 @@ enum-told-3 c = search needs
 
 add-store-data : tie.Need-add-store-data
 add-store-data c =
-    let s = c .before .before .before in
+    let s = c .before .before .before .before in
     omega (arith, s .pre .2, mac-within _ _ (s .pre .0) (signed-least _ _ (s .pre .1)))
 
 sub-store-data : tie.Need-sub-store-data
@@ -44,7 +45,7 @@ part-store-data-start c = search needs
 
 part-store-data-end : tie.Need-part-store-data-end
 part-store-data-end c =
-    let s = c .before .before .before in
+    let s = c .before .before .before .before in
     omega (arith, s .pre .2, mac-within _ _ (s .pre .0) (signed-least _ _ (s .pre .1)))
 
 store-data-requires : tie.Need-store-data-requires
@@ -73,7 +74,7 @@ enum-told-6 c = search needs
 
 add-put-data : tie.Need-add-put-data
 add-put-data c =
-    let s = c .before .before .before in
+    let s = c .before .before .before .before in
     omega (arith, s .pre .2, mac-within _ _ (s .pre .0) (signed-least _ _ (s .pre .1)))
 
 sub-put-data : tie.Need-sub-put-data
@@ -84,7 +85,7 @@ part-put-data-start c = search needs
 
 part-put-data-end : tie.Need-part-put-data-end
 part-put-data-end c =
-    let s = c .before .before .before in
+    let s = c .before .before .before .before in
     omega (arith, s .pre .2, mac-within _ _ (s .pre .0) (signed-least _ _ (s .pre .1)))
 
 put-data-requires : tie.Need-put-data-requires
@@ -94,8 +95,8 @@ returns : tie.Need-returns
 unfolding signedOf
 returns c =
     let t = c .before .before .enum-told .given .1 in
-    let s = c .before .before .before .before .before in
-    let n : signedLength PutKey (s .args .a .lc) ≡ true = rw (← t) (s .pre .1) in
+    let s = c .before .before .before .before .before .before in
+    let n : signedLength PutKey (s .args .request .header .lc) ≡ true = rw (← t) (s .pre .1) in
     rw (t, ← signed-body _ _ (s .pre .0) 48 (signed-size PutKey _ n), ← c .before .part48 .ensures) (c .put-key .ensures)
 
 returns-2 : tie.Need-returns-2
@@ -105,63 +106,38 @@ returns-2 c = rw (c .before .enum-told2 .given .1) (c .pin-data .ensures)
 returns-3 : tie.Need-returns-3
 unfolding signedOf
 returns-3 c =
-    let s = c .before .before .before .before .before in
-    let z : 5 + s .args .n - 5 ≡ s .args .a .lc - macSize = omega (arith, s .pre .2) in
+    let s = c .before .before .before .before .before .before in
+    let z : 5 + s .args .n - 5 ≡ s .args .request .header .lc - macSize = omega (arith, s .pre .2) in
     rw (c .before .before .enum-told3 .given .1, ← z) (c .store-data .ensures)
 
 returns-4 : tie.Need-returns-4
 unfolding signedOf
 returns-4 c =
     let t = c .before .before .enum-told4 .given .1 in
-    let s = c .before .before .before .before .before in
-    let n : signedLength InitializeTransaction (s .args .a .lc) ≡ true = rw (← t) (s .pre .1) in
+    let s = c .before .before .before .before .before .before in
+    let n : signedLength InitializeTransaction (s .args .request .header .lc) ≡ true = rw (← t) (s .pre .1) in
     rw (t, ← signed-body _ _ (s .pre .0) 4 (signed-size InitializeTransaction _ n), ← c .before .part4 .ensures) (c .initialize-transaction .ensures)
 
 returns-5 : tie.Need-returns-5
 unfolding signedOf
 returns-5 c =
     let t = c .before .before .enum-told5 .given .1 in
-    let s = c .before .before .before .before .before in
-    let n : signedLength CompleteTransaction (s .args .a .lc) ≡ true = rw (← t) (s .pre .1) in
+    let s = c .before .before .before .before .before .before in
+    let n : signedLength CompleteTransaction (s .args .request .header .lc) ≡ true = rw (← t) (s .pre .1) in
     rw (t, ← signed-body _ _ (s .pre .0) 16 (signed-size CompleteTransaction _ n), ← c .before .part16 .ensures) (c .complete-transaction .ensures)
 
 returns-6 : tie.Need-returns-6
 unfolding signedOf
 returns-6 c =
-    let s = c .before .before .before .before .before in
-    let z : 5 + s .args .n - 5 ≡ s .args .a .lc - macSize = omega (arith, s .pre .2) in
+    let s = c .before .before .before .before .before .before in
+    let z : 5 + s .args .n - 5 ≡ s .args .request .header .lc - macSize = omega (arith, s .pre .2) in
     rw (c .before .before .enum-told6 .given .1, ← z) (c .put-data .ensures)
 
 pub signed-spec : {M : Type 1} → statement M
 signed-spec =
     tie.close
-    (tie.spec
-    enum-told
-    part48-requires
-    put-key-requires
-    enum-told-2
-    pin-data-requires
-    enum-told-3
-    add-store-data
-    sub-store-data
-    part-store-data-start
-    part-store-data-end
-    store-data-requires
-    enum-told-4
-    part4-requires
-    initialize-transaction-requires
-    enum-told-5
-    part16-requires
-    complete-transaction-requires
-    enum-told-6
-    add-put-data
-    sub-put-data
-    part-put-data-start
-    part-put-data-end
-    put-data-requires
-    returns
-    returns-2
-    returns-3
-    returns-4
-    returns-5
-    returns-6)
+    (tie.spec enum-told part48-requires put-key-requires enum-told-2 pin-data-requires enum-told-3 add-store-data
+    sub-store-data part-store-data-start part-store-data-end store-data-requires enum-told-4 part4-requires
+    initialize-transaction-requires enum-told-5 part16-requires complete-transaction-requires enum-told-6 add-put-data
+    sub-put-data part-put-data-start part-put-data-end put-data-requires returns returns-2 returns-3 returns-4
+    returns-5 returns-6)

@@ -56,15 +56,5 @@ returns c =
 pub bits-of-spec : {M : Type 1} → statement M
 bits-of-spec =
     tie.close
-    (tie.spec
-    Inv-loop
-    μ-loop
-    loop-holds
-    array-read-bit
-    sub-bit
-    bit-requires
-    array-write-out
-    add-i
-    loop-less
-    loop-again
-    returns)
+    (tie.spec Inv-loop μ-loop loop-holds array-read-bit sub-bit bit-requires array-write-out add-i loop-less
+    loop-again returns)

@@ -69,18 +69,5 @@ returns c = fill-done (c .before .loop .inv) (omega (arith, length-bytesOf 8 (c 
 pub bytes-of-spec : {M : Type 1} → statement M
 bytes-of-spec =
     tie.close
-    (tie.spec
-    Inv-loop
-    μ-loop
-    loop-holds
-    mul-from
-    add-number
-    sub-number
-    part-number-start
-    part-number-end
-    number-requires
-    array-write-out
-    add-i
-    loop-less
-    loop-again
-    returns)
+    (tie.spec Inv-loop μ-loop loop-holds mul-from add-number sub-number part-number-start part-number-end
+    number-requires array-write-out add-i loop-less loop-again returns)

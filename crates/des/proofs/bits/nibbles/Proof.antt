@@ -53,15 +53,5 @@ returns c =
 pub nibbles-spec : {M : Type 1} → statement M
 nibbles-spec =
     tie.close
-    (tie.spec
-    Inv-loop
-    μ-loop
-    loop-holds
-    array-read-bit
-    sub-bit
-    bit-requires
-    array-write-out
-    add-i
-    loop-less
-    loop-again
-    returns)
+    (tie.spec Inv-loop μ-loop loop-holds array-read-bit sub-bit bit-requires array-write-out add-i loop-less
+    loop-again returns)

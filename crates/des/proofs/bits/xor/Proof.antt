@@ -60,16 +60,5 @@ returns c =
 pub xor-spec : {M : Type 1} → statement M
 xor-spec =
     tie.close
-    (tie.spec
-    Inv-loop
-    μ-loop
-    loop-holds
-    shared-slice-read-out
-    shared-slice-read-out-2
-    add-out
-    slice-write-out
-    add-i
-    loop-less
-    loop-again
-    same-length
-    returns)
+    (tie.spec Inv-loop μ-loop loop-holds shared-slice-read-out shared-slice-read-out-2 add-out slice-write-out add-i
+    loop-less loop-again same-length returns)

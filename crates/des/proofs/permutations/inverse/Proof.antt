@@ -25,9 +25,4 @@ returns c = c .before .permute .ensures
 pub inverse-spec : {M : Type 1} → statement M
 inverse-spec =
     tie.close
-    (tie.spec
-    slice-aggregate-permute
-    slice-aggregate-permute-2
-    slice-aggregate-permute-3
-    permute-requires
-    returns)
+    (tie.spec slice-aggregate-permute slice-aggregate-permute-2 slice-aggregate-permute-3 permute-requires returns)

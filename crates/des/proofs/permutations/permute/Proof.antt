@@ -62,17 +62,5 @@ returns c =
 pub permute-spec : {M : Type 1} → statement M
 permute-spec =
     tie.close
-    (tie.spec
-    Inv-loop
-    μ-loop
-    loop-holds
-    shared-slice-read-out
-    cast-out
-    sub-out
-    shared-slice-read-out-2
-    slice-write-out
-    add-i
-    loop-less
-    loop-again
-    same-length
-    returns)
+    (tie.spec Inv-loop μ-loop loop-holds shared-slice-read-out cast-out sub-out shared-slice-read-out-2
+    slice-write-out add-i loop-less loop-again same-length returns)

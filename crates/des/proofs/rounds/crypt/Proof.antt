@@ -40,10 +40,4 @@ returns c =
 pub crypt-spec : {M : Type 1} → statement M
 crypt-spec =
     tie.close
-    (tie.spec
-    initial-requires
-    half-requires
-    half-requires-2
-    rounds-requires
-    inverse-requires
-    returns)
+    (tie.spec initial-requires half-requires half-requires-2 rounds-requires inverse-requires returns)

@@ -63,16 +63,5 @@ returns c =
 pub rounds-spec : {M : Type 1} → statement M
 rounds-spec =
     tie.close
-    (tie.spec
-    Inv-loop
-    μ-loop
-    loop-holds
-    mul-key
-    array-copy-out-key
-    cipher-requires
-    xor32-requires
-    add-i
-    loop-less
-    loop-again
-    join-requires
-    returns)
+    (tie.spec Inv-loop μ-loop loop-holds mul-key array-copy-out-key cipher-requires xor32-requires add-i loop-less
+    loop-again join-requires returns)

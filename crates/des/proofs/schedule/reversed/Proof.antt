@@ -59,16 +59,5 @@ returns c =
 pub reversed-spec : {M : Type 1} → statement M
 reversed-spec =
     tie.close
-    (tie.spec
-    Inv-loop
-    μ-loop
-    loop-holds
-    sub-key
-    mul-key
-    array-copy-out-key
-    mul-out
-    array-set-from-out
-    add-i
-    loop-less
-    loop-again
-    returns)
+    (tie.spec Inv-loop μ-loop loop-holds sub-key mul-key array-copy-out-key mul-out array-set-from-out add-i loop-less
+    loop-again returns)

@@ -72,18 +72,5 @@ returns c =
 pub schedule-spec : {M : Type 1} → statement M
 schedule-spec =
     tie.close
-    (tie.spec
-    Inv-loop
-    μ-loop
-    choice1-requires
-    loop-holds
-    mul-shift-halves
-    array-read-shift-halves
-    shift-halves-requires
-    choice2-requires
-    mul-keys
-    array-set-from-keys
-    add-i
-    loop-less
-    loop-again
-    returns)
+    (tie.spec Inv-loop μ-loop choice1-requires loop-holds mul-shift-halves array-read-shift-halves
+    shift-halves-requires choice2-requires mul-keys array-set-from-keys add-i loop-less loop-again returns)

@@ -60,16 +60,5 @@ returns c =
 pub shift-halves-spec : {M : Type 1} → statement M
 shift-halves-spec =
     tie.close
-    (tie.spec
-    Inv-loop
-    μ-loop
-    loop-holds
-    mul-out
-    add-out
-    add-out-2
-    array-read-out
-    array-write-out
-    add-i
-    loop-less
-    loop-again
-    returns)
+    (tie.spec Inv-loop μ-loop loop-holds mul-out add-out add-out-2 array-read-out array-write-out add-i loop-less
+    loop-again returns)

@@ -38,10 +38,4 @@ returns c =
 pub cipher-spec : {M : Type 1} → statement M
 cipher-spec =
     tie.close
-    (tie.spec
-    expand-requires
-    xor48-requires
-    selects-requires
-    nibbles-requires
-    scatter-requires
-    returns)
+    (tie.spec expand-requires xor48-requires selects-requires nibbles-requires scatter-requires returns)

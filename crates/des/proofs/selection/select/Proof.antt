@@ -88,20 +88,6 @@ returns c =
 pub select-spec : {M : Type 1} → statement M
 select-spec =
     tie.close
-    (tie.spec
-    mul-from
-    array-read-row
-    add-column
-    array-read-column
-    slice-aggregate-number
-    number-requires
-    cast-row
-    add-number
-    add-number-2
-    sub-number
-    part-number-start
-    part-number-end
-    number-requires-2
-    cast-column
-    entry-requires
+    (tie.spec mul-from array-read-row add-column array-read-column slice-aggregate-number number-requires cast-row
+    add-number add-number-2 sub-number part-number-start part-number-end number-requires-2 cast-column entry-requires
     returns)

@@ -43,13 +43,4 @@ returns c = fill-done (c .before .loop .inv) (omega (arith, length-entries (c .b
 pub selects-spec : {M : Type 1} → statement M
 selects-spec =
     tie.close
-    (tie.spec
-    Inv-loop
-    μ-loop
-    loop-holds
-    select-requires
-    array-write-out
-    add-i
-    loop-less
-    loop-again
-    returns)
+    (tie.spec Inv-loop μ-loop loop-holds select-requires array-write-out add-i loop-less loop-again returns)

@@ -32,10 +32,4 @@ returns c =
 pub put-spec : {M : Type 1} → statement M
 put-spec =
     tie.close
-    (tie.spec
-    size-requires
-    array-share-prefix-bytes
-    slice-aggregate-paste
-    paste-requires
-    same-length
-    returns)
+    (tie.spec size-requires array-share-prefix-bytes slice-aggregate-paste paste-requires same-length returns)

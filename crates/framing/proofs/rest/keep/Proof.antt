@@ -64,18 +64,5 @@ returns-2 c =
 pub keep-spec : {M : Type 1} → statement M
 keep-spec =
     tie.close
-    (tie.spec
-    Inv-loop
-    μ-loop
-    least-requires
-    returns
-    sub-n
-    loop-holds
-    add-area
-    slice-read-area
-    slice-write-area
-    add-i
-    loop-less
-    loop-again
-    same-length
-    returns-2)
+    (tie.spec Inv-loop μ-loop least-requires returns sub-n loop-holds add-area slice-read-area slice-write-area add-i
+    loop-less loop-again same-length returns-2)

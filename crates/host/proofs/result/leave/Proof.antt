@@ -43,13 +43,5 @@ returns-3 c = search rules depth 24
 pub leave-spec : {M : Type 1} → statement M
 leave-spec =
     tie.close
-    (tie.spec
-    pack-requires
-    slice-aggregate-paste
-    paste-requires
-    same-length
-    returns
-    clear-requires
-    same-length-2
-    returns-2
-    returns-3)
+    (tie.spec pack-requires slice-aggregate-paste paste-requires same-length returns clear-requires same-length-2
+    returns-2 returns-3)

@@ -1,3 +1,4 @@
+-- `agent_of`: its two callees.
 use borrow.Author.Needs.{needs}
 use Rattle.commands_spec.specs.Data.{agentOf}
 use Rattle.objects.proofs.data.agent_of.Statement.{statement}

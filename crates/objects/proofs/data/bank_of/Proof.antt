@@ -1,3 +1,4 @@
+-- `bank_of`: by whether there is a value.
 use borrow.Author.Needs.{needs}
 use borrow.Author.Tests.{eq-eqb, ne-eqb}
 use Rattle.commands_spec.specs.Data.{bankOf}

@@ -1,3 +1,4 @@
+-- `bank_value`: by whether it is defined.
 use mathlib.Core.Path.{_≡_}
 use native.Mathlib.Omega.{arith}
 use borrow.Author.Needs.{needs}
@@ -25,5 +26,4 @@ returns-2 : tie.Need-returns-2
 returns-2 c = rw (c .before .if1 .left) (c .empty2 .ensures, omega arith)
 
 pub bank-value-spec : {M : Type 1} → statement M
-bank-value-spec =
-    tie.close (tie.spec empty-requires append16-requires returns empty-requires-2 returns-2)
+bank-value-spec = tie.close (tie.spec empty-requires append16-requires returns empty-requires-2 returns-2)

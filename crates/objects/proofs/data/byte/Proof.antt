@@ -1,3 +1,4 @@
+-- `byte`: a buffer that holds one piece alone.
 use mathlib.Core.List.{[], _∷_}
 use native.Mathlib.Omega.{arith}
 use borrow.Author.Needs.{needs}

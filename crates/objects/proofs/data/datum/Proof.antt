@@ -1,3 +1,4 @@
+-- `datum`: by the tag.
 use native.Mathlib.Omega.{arith}
 use borrow.Author.Needs.{needs}
 use borrow.Author.Tests.{ne-eqb}
@@ -95,29 +96,7 @@ returns-12 c = rw (ne-eqb _ _ (c .before .match .rest .0 .0 .0 .0 .0 .0 .0 .0 .0
 pub datum-spec : {M : Type 1} → statement M
 datum-spec =
     tie.close
-    (tie.spec
-    identifier-requires
-    number-requires
-    number-requires-2
-    number-requires-3
-    number-requires-4
-    bank-value-requires
-    agent-value-requires
-    number-requires-5
-    number-requires-6
-    byte-requires
-    administrative-requires
-    byte-requires-2
-    empty-requires
-    returns
-    returns-2
-    returns-3
-    returns-4
-    returns-5
-    returns-6
-    returns-7
-    returns-8
-    returns-9
-    returns-10
-    returns-11
-    returns-12)
+    (tie.spec identifier-requires number-requires number-requires-2 number-requires-3 number-requires-4
+    bank-value-requires agent-value-requires number-requires-5 number-requires-6 byte-requires administrative-requires
+    byte-requires-2 empty-requires returns returns-2 returns-3 returns-4 returns-5 returns-6 returns-7 returns-8
+    returns-9 returns-10 returns-11 returns-12)

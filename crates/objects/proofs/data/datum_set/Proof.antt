@@ -1,3 +1,4 @@
+-- `datum_set`: tag 05 is shared, the others are parameters.
 use borrow.Author.Needs.{needs}
 use borrow.Author.Tests.{eq-eqb, ne-eqb}
 use Rattle.commands_spec.specs.Data.{datumSet}
@@ -27,10 +28,5 @@ returns-2 c = rw (ne-eqb _ _ (c .before .before .before .before .if1 .left), ←
 pub datum-set-spec : {M : Type 1} → statement M
 datum-set-spec =
     tie.close
-    (tie.spec
-    word-at-requires
-    with-maxnumber-requires
-    returns
-    parameter-set-requires
-    with-parameters-requires
+    (tie.spec word-at-requires with-maxnumber-requires returns parameter-set-requires with-parameters-requires
     returns-2)

@@ -1,3 +1,4 @@
+-- `identifier`: a buffer that holds one piece alone.
 use mathlib.Core.Path.{_≡_}
 use native.Mathlib.Omega.{arith}
 use borrow.Author.Needs.{needs}

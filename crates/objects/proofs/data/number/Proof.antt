@@ -1,3 +1,4 @@
+-- `number`: a buffer that holds one piece alone.
 use native.Mathlib.Omega.{arith}
 use borrow.Author.Needs.{needs}
 use Rattle.octets.specs.Words.{word}

@@ -1,3 +1,4 @@
+-- `parameter_set`: by the tag.
 use borrow.Author.Needs.{needs}
 use borrow.Author.Tests.{ne-eqb}
 use Rattle.commands_spec.specs.Data.{parameterSet}
@@ -53,17 +54,5 @@ returns-7 c = rw (ne-eqb _ _ (c .match .rest .0 .0 .0 .0 .0 .1), ne-eqb _ _ (c .
 pub parameter-set-spec : {M : Type 1} → statement M
 parameter-set-spec =
     tie.close
-    (tie.spec
-    part4-requires
-    word-at-requires
-    word-at-requires-2
-    word-at-requires-3
-    bank-of-requires
-    agent-of-requires
-    returns
-    returns-2
-    returns-3
-    returns-4
-    returns-5
-    returns-6
-    returns-7)
+    (tie.spec part4-requires word-at-requires word-at-requires-2 word-at-requires-3 bank-of-requires agent-of-requires
+    returns returns-2 returns-3 returns-4 returns-5 returns-6 returns-7)

@@ -1,5 +1,6 @@
+-- `dek_of`: by the level.
 use borrow.Author.Needs.{needs}
-use Rattle.commands_spec.specs.Updates.{dekOf}
+use Rattle.commands_spec.specs.KeySets.{dekOf}
 use Rattle.objects.proofs.key_sets.dek_of.Statement.{statement}
 use Rattle.objects.proofs.key_sets.dek_of.Tie as tie
 
@@ -33,12 +34,5 @@ returns-3 c = rw (c .before .before .level2 .given .1) (c .set-dek2 .ensures)
 pub dek-of-spec : {M : Type 1} → statement M
 dek-of-spec =
     tie.close
-    (tie.spec
-    enum-told
-    enum-known-level
-    set-dek-requires
-    enum-known-level-2
-    set-dek-requires-2
-    returns
-    returns-2
+    (tie.spec enum-told enum-known-level set-dek-requires enum-known-level-2 set-dek-requires-2 returns returns-2
     returns-3)

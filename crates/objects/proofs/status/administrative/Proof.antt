@@ -1,3 +1,4 @@
+-- `administrative`: each bit is at most its value, so that the sum fits a byte.
 use native.Mathlib.Omega.{arith}
 use borrow.Author.Needs.{needs}
 use Rattle.commands_spec.specs.Status.{administrative}
@@ -35,13 +36,5 @@ returns c = rw (c .bit4 .ensures .0, c .before .bit3 .ensures .0, c .before .bef
 pub administrative-spec : {M : Type 1} → statement M
 administrative-spec =
     tie.close
-    (tie.spec
-    bit-requires
-    both-requires
-    bit-requires-2
-    bit-requires-3
-    bit-requires-4
-    add-result
-    add-result-2
-    add-result-3
-    returns)
+    (tie.spec bit-requires both-requires bit-requires-2 bit-requires-3 bit-requires-4 add-result add-result-2
+    add-result-3 returns)

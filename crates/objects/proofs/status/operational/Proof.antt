@@ -1,3 +1,4 @@
+-- `operational`: its callees, in their order.
 use borrow.Author.Needs.{needs}
 use Rattle.commands_spec.specs.Status.{operational}
 use Rattle.objects.proofs.status.operational.Statement.{statement}
@@ -21,4 +22,5 @@ returns c = rw (c .words .ensures, c .before .difference2 .ensures, c .before .b
 
 pub operational-spec : {M : Type 1} → statement M
 operational-spec =
-    tie.close (tie.spec difference-requires lesser-requires difference-requires-2 words-requires returns)
+    tie.close
+    (tie.spec difference-requires lesser-requires difference-requires-2 words-requires returns)

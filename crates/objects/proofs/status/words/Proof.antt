@@ -1,3 +1,4 @@
+-- `words`: byte by byte.
 use borrow.Author.Needs.{needs}
 use Rattle.objects.proofs.status.words.Statement.{statement}
 use Rattle.objects.proofs.status.words.Tie as tie
@@ -38,15 +39,5 @@ returns c = rw (c .low5 .ensures, c .before .high5 .ensures, c .before .before .
 pub words-spec : {M : Type 1} → statement M
 words-spec =
     tie.close
-    (tie.spec
-    high-requires
-    low-requires
-    high-requires-2
-    low-requires-2
-    high-requires-3
-    low-requires-3
-    high-requires-4
-    low-requires-4
-    high-requires-5
-    low-requires-5
-    returns)
+    (tie.spec high-requires low-requires high-requires-2 low-requires-2 high-requires-3 low-requires-3 high-requires-4
+    low-requires-4 high-requires-5 low-requires-5 returns)

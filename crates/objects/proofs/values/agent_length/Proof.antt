@@ -1,3 +1,4 @@
+-- `agent_length`: by its tests.
 use Rattle.commands_spec.specs.Data.{agentLength}
 use Rattle.octets.proofs.Rules.{rules}
 use Rattle.objects.proofs.values.agent_length.Statement.{statement}

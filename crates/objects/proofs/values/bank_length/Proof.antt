@@ -1,3 +1,4 @@
+-- `bank_length`: by its tests.
 use Rattle.commands_spec.specs.Data.{bankLength}
 use Rattle.octets.proofs.Rules.{rules}
 use Rattle.objects.proofs.values.bank_length.Statement.{statement}

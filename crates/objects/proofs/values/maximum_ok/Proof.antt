@@ -1,3 +1,4 @@
+-- `maximum_ok`: by its two tests.
 use borrow.Author.Tests.{eq-eqb}
 use Rattle.commands_spec.specs.Data.{maximumOk}
 use Rattle.octets.proofs.Rules.{rules}

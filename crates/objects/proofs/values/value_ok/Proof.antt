@@ -1,3 +1,4 @@
+-- `value_ok`: by the tag.
 use Rattle.commands_spec.specs.Data.{valueOk}
 use Rattle.octets.proofs.Rules.{rules}
 use borrow.Author.Needs.{needs}
@@ -51,16 +52,5 @@ returns-8 c = search rules depth 24
 pub value-ok-spec : {M : Type 1} → statement M
 value-ok-spec =
     tie.close
-    (tie.spec
-    maximum-ok-requires
-    maximum-ok-requires-2
-    bank-length-requires
-    agent-length-requires
-    returns
-    returns-2
-    returns-3
-    returns-4
-    returns-5
-    returns-6
-    returns-7
-    returns-8)
+    (tie.spec maximum-ok-requires maximum-ok-requires-2 bank-length-requires agent-length-requires returns returns-2
+    returns-3 returns-4 returns-5 returns-6 returns-7 returns-8)

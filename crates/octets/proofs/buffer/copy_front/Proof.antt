@@ -46,11 +46,5 @@ returns-2 c =
 pub copy-front-spec : {M : Type 1} → statement M
 copy-front-spec =
     tie.close
-    (tie.spec
-    size-requires
-    returns
-    array-share-prefix-bytes
-    slice-aggregate-paste
-    paste-requires
-    same-length
+    (tie.spec size-requires returns array-share-prefix-bytes slice-aggregate-paste paste-requires same-length
     returns-2)

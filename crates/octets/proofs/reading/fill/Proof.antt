@@ -63,18 +63,5 @@ returns-3 c =
 pub fill-spec : {M : Type 1} → statement M
 fill-spec =
     tie.close
-    (tie.spec
-    clear-requires
-    same-length
-    returns
-    sub-if2
-    fill-end-requires
-    same-length-2
-    returns-2
-    add-end
-    sub-paste
-    part-paste-start
-    part-paste-end
-    paste-requires
-    same-length-3
-    returns-3)
+    (tie.spec clear-requires same-length returns sub-if2 fill-end-requires same-length-2 returns-2 add-end sub-paste
+    part-paste-start part-paste-end paste-requires same-length-3 returns-3)

@@ -40,11 +40,4 @@ returns c =
 pub fill-end-spec : {M : Type 1} → statement M
 fill-end-spec =
     tie.close
-    (tie.spec
-    clear-requires
-    sub-paste
-    part-paste-start
-    part-paste-end
-    paste-requires
-    same-length
-    returns)
+    (tie.spec clear-requires sub-paste part-paste-start part-paste-end paste-requires same-length returns)

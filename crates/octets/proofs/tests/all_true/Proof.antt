@@ -43,13 +43,4 @@ returns-2 c = sym (c .before .loop .inv .1 ∙ tests-end _ (c .before .loop .i) 
 pub all-true-spec : {M : Type 1} → statement M
 all-true-spec =
     tie.close
-    (tie.spec
-    Inv-loop
-    μ-loop
-    loop-holds
-    shared-slice-read-if1
-    returns
-    add-i
-    loop-less
-    loop-again
-    returns-2)
+    (tie.spec Inv-loop μ-loop loop-holds shared-slice-read-if1 returns add-i loop-less loop-again returns-2)

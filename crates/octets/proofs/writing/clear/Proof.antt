@@ -45,13 +45,4 @@ returns c = fill-done (c .before .loop .inv .2) (omega (arith, length-replicate 
 pub clear-spec : {M : Type 1} → statement M
 clear-spec =
     tie.close
-    (tie.spec
-    Inv-loop
-    μ-loop
-    loop-holds
-    slice-write-area
-    add-i
-    loop-less
-    loop-again
-    same-length
-    returns)
+    (tie.spec Inv-loop μ-loop loop-holds slice-write-area add-i loop-less loop-again same-length returns)

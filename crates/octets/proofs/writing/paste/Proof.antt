@@ -69,18 +69,5 @@ returns-3 c =
 pub paste-spec : {M : Type 1} → statement M
 paste-spec =
     tie.close
-    (tie.spec
-    Inv-loop
-    μ-loop
-    returns
-    sub-if2
-    returns-2
-    loop-holds
-    shared-slice-read-area
-    add-area
-    slice-write-area
-    add-i
-    loop-less
-    loop-again
-    same-length
-    returns-3)
+    (tie.spec Inv-loop μ-loop returns sub-if2 returns-2 loop-holds shared-slice-read-area add-area slice-write-area
+    add-i loop-less loop-again same-length returns-3)

@@ -1,3 +1,4 @@
+-- `finish`: 7 below the number of stores, else 0.
 use Rattle.octets.proofs.Rules.{rules}
 use Rattle.purse.specs.Called.{underLimit}
 use borrow.Author.Needs.{needs}

@@ -1,3 +1,4 @@
+-- `asked_record`: P1 less one, 0 where P1 is 0.
 use Prim.Native.Nat.{_-_}
 use Rattle.commands_spec.specs.ReadRecord.{asked}
 use borrow.Author.Needs.{needs}
@@ -32,11 +33,4 @@ returns-2 c = rw (← c .before .before .byte-at .ensures) (c .record-at2 .ensur
 pub asked-record-spec : {M : Type 1} → statement M
 asked-record-spec =
     tie.close
-    (tie.spec
-    byte-at-requires
-    record-at-requires
-    returns
-    cast-record-at
-    sub-record-at
-    record-at-requires-2
-    returns-2)
+    (tie.spec byte-at-requires record-at-requires returns cast-record-at sub-record-at record-at-requires-2 returns-2)

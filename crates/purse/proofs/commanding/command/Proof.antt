@@ -1,3 +1,4 @@
+-- `command`: answers 1, 3, 4 and 2 in their order, then the command on the card.
 use mathlib.Core.Path.{sym, _∙_}
 use borrow.Author.Tests.{not-true, not-false}
 use Rattle.purse.proofs.Starting.{reads-ok}
@@ -64,18 +65,5 @@ returns-5 c =
 pub command-spec : {M : Type 1} → statement M
 command-spec =
     tie.close
-    (tie.spec
-    storeless-requires
-    returns
-    storeless-requires-2
-    returns-2
-    storeless-requires-3
-    returns-3
-    read-requires
-    storeless-requires-4
-    same-length
-    returns-4
-    run-requires
-    same-length-2
-    same-length-3
-    returns-5)
+    (tie.spec storeless-requires returns storeless-requires-2 returns-2 storeless-requires-3 returns-3 read-requires
+    storeless-requires-4 same-length returns-4 run-requires same-length-2 same-length-3 returns-5)

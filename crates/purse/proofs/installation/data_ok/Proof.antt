@@ -1,3 +1,4 @@
+-- `data_ok`: each test in its turn, by the rules of a row of `&&`.
 use Rattle.octets.proofs.Rules.{rules}
 use Rattle.purse_spec.specs.Installation.{dataOk}
 use borrow.Author.Needs.{needs}
@@ -70,18 +71,5 @@ returns-7 c =
 pub data-ok-spec : {M : Type 1} → statement M
 data-ok-spec =
     tie.close
-    (tie.spec
-    byte-at-requires
-    cast-n
-    add-byte-at
-    byte-at-requires-2
-    add-byte-at-2
-    byte-at-requires-3
-    returns
-    returns-2
-    add-if3
-    returns-3
-    returns-4
-    returns-5
-    returns-6
-    returns-7)
+    (tie.spec byte-at-requires cast-n add-byte-at byte-at-requires-2 add-byte-at-2 byte-at-requires-3 returns
+    returns-2 add-if3 returns-3 returns-4 returns-5 returns-6 returns-7)

@@ -1,3 +1,4 @@
+-- `install`: size, data, then the stores of the fresh card.
 use mathlib.Core.Path.{sym, _∙_}
 use borrow.Author.Tests.{not-true, not-false}
 use Rattle.purse.proofs.Installing.{install-sized, install-data, install-run}
@@ -29,11 +30,14 @@ returns-2 c =
     install-data _ _ _ _ (d .before .before .if1 .left) (sym (d .before .data-ok .ensures) ∙ not-true _ (d .if2 .taken))
     (rw (← c .before .unselected2 .ensures) (c .storeless2 .ensures))
 
-fixed-of-requires : tie.Need-fixed-of-requires
-fixed-of-requires c κs = sym (c .before .data-ok .ensures) ∙ not-false _ (c .if2 .left)
+data-fixed-requires : tie.Need-data-fixed-requires
+data-fixed-requires c κs = search needs
 
-keys-of-requires : tie.Need-keys-of-requires
-keys-of-requires c κs = search needs
+data-aid-requires : tie.Need-data-aid-requires
+data-aid-requires c κs = sym (c .before .before .data-ok .ensures) ∙ not-false _ (c .before .if2 .left)
+
+data-keys-requires : tie.Need-data-keys-requires
+data-keys-requires c κs = search needs
 
 install-requires : tie.Need-install-requires
 install-requires c κs = search needs
@@ -50,26 +54,15 @@ same-length c = search needs
 returns-3 : tie.Need-returns-3
 returns-3 c =
     let i = c .before .before .before .before in
-    let k = i .before .before in
-    let d = k .before .before in
-    install-run _ _ _ _ _ _ _ _ (d .before .before .if1 .left) (sym (d .before .data-ok .ensures) ∙ not-false _ (d .if2 .left)) (k .before .fixed-of .ensures) (k .keys-of .ensures) (i .install .ensures .0)
-    (i .install .ensures .1) (rw (← c .before .unselected3 .ensures) (c .finish .ensures))
+    let f = i .before .before .before .before in
+    let d = f .before in
+    install-run _ _ _ _ _ _ _ _ _ (d .before .before .if1 .left) (sym (d .before .data-ok .ensures) ∙ not-false _ (d .if2 .left)) (f .data-fixed .ensures)
+    (i .before .before .before .data-aid .ensures) (i .before .before .data-keys .ensures) (i .install .ensures .0) (i .install .ensures .1)
+    (rw (← c .before .unselected3 .ensures) (c .finish .ensures))
 
 pub install-spec : {M : Type 1} → statement M
 install-spec =
     tie.close
-    (tie.spec
-    unselected-requires
-    storeless-requires
-    returns
-    data-ok-requires
-    unselected-requires-2
-    storeless-requires-2
-    returns-2
-    fixed-of-requires
-    keys-of-requires
-    install-requires
-    unselected-requires-3
-    finish-requires
-    same-length
-    returns-3)
+    (tie.spec unselected-requires storeless-requires returns data-ok-requires unselected-requires-2
+    storeless-requires-2 returns-2 data-fixed-requires data-aid-requires data-keys-requires install-requires
+    unselected-requires-3 finish-requires same-length returns-3)

@@ -1,3 +1,4 @@
+-- `answer`: copied where the run was not cut.
 use borrow.Author.Tests.{le-ltb, lt-ltb}
 use borrow.Author.Needs.{needs}
 use Rattle.purse.proofs.performing.answer.Statement.{statement}

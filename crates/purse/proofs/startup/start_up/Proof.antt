@@ -1,3 +1,4 @@
+-- `start_up`: size, then whether memory reads as a card.
 use mathlib.Core.Bool.{true, false}
 use mathlib.Core.Path.{sym, _∙_}
 use borrow.Author.Tests.{not-true, not-false}
@@ -51,16 +52,5 @@ returns-3 c =
 pub start-up-spec : {M : Type 1} → statement M
 start-up-spec =
     tie.close
-    (tie.spec
-    unselected-requires
-    storeless-requires
-    returns
-    read-requires
-    unselected-requires-2
-    storeless-requires-2
-    same-length
-    returns-2
-    unselected-requires-3
-    storeless-requires-3
-    same-length-2
-    returns-3)
+    (tie.spec unselected-requires storeless-requires returns read-requires unselected-requires-2 storeless-requires-2
+    same-length returns-2 unselected-requires-3 storeless-requires-3 same-length-2 returns-3)

@@ -1,3 +1,4 @@
+-- `get_data`: the value, measured, is the answer.
 use native.Mathlib.Omega.{arith}
 use borrow.Author.Needs.{needs}
 use Rattle.objects.proofs.Answers.{done-held}
@@ -28,5 +29,4 @@ returns c =
     rw (← c .before .ended .ensures) (done-held (c .done .ensures) _ b (omega arith))
 
 pub get-data-spec : {M : Type 1} → statement M
-get-data-spec =
-    tie.close (tie.spec datum-requires measured-requires ended-requires done-requires returns)
+get-data-spec = tie.close (tie.spec datum-requires measured-requires ended-requires done-requires returns)

@@ -1,3 +1,4 @@
+-- `measured`: a value of 16 bytes fits behind its length.
 use mathlib.Core.List.{List, [], _∷_}
 use mathlib.Core.Path.{_≡_, ap, _∙_}
 use Prim.Native.Nat.{ℕ, _-_}
@@ -62,14 +63,5 @@ returns-2 c =
 pub measured-spec : {M : Type 1} → statement M
 measured-spec =
     tie.close
-    (tie.spec
-    size-requires
-    returns
-    empty-requires
-    cast-append-byte
-    append-byte-requires
-    sub-append
-    part-append-start
-    part-append-end
-    append-requires
-    returns-2)
+    (tie.spec size-requires returns empty-requires cast-append-byte append-byte-requires sub-append part-append-start
+    part-append-end append-requires returns-2)

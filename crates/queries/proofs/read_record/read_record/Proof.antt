@@ -1,3 +1,4 @@
+-- `read_record`: the record's bytes are the answer.
 use borrow.Author.Needs.{needs}
 use Rattle.objects.proofs.Answers.{done-held}
 use Rattle.commands_spec.specs.ReadRecord.{readRecordOf}

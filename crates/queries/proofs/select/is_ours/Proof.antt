@@ -1,3 +1,4 @@
+-- `is_ours`: an AID longer than its array is the whole array.
 use mathlib.Core.Path.{_≡_}
 use native.Mathlib.Nat.{sub-zero}
 use native.Mathlib.Omega.{arith}
@@ -18,9 +19,9 @@ same-requires c κs = search needs
 
 returns : tie.Need-returns
 returns c =
-    let f = c .before .before .before .before .before .before .args .fixed in
-    let h : length (f .aid) ≡ 16 = search needs in
-    rw (take-all (f .aidlen) (f .aid) (omega arith)) (c .same .ensures)
+    let f = c .before .before .before .before .before .before .args .own in
+    let h : length (f .bytes) ≡ 16 = search needs in
+    rw (take-all (f .size) (f .bytes) (omega arith)) (c .same .ensures)
 
 sub-same : tie.Need-sub-same
 sub-same c = search needs
@@ -30,7 +31,7 @@ part-same-start c = search needs
 
 part-same-end : tie.Need-part-same-end
 part-same-end c =
-    let h : length (c .before .before .before .before .before .args .fixed .aid) ≡ 16 = search needs in
+    let h : length (c .before .before .before .before .before .args .own .bytes) ≡ 16 = search needs in
     omega arith
 
 same-requires-2 : tie.Need-same-requires-2
@@ -38,19 +39,11 @@ same-requires-2 c κs = search needs
 
 returns-2 : tie.Need-returns-2
 returns-2 c =
-    let f = c .before .before .before .before .before .before .before .args .fixed in
-    rw (← sub-zero (f .aidlen)) (c .same2 .ensures)
+    let f = c .before .before .before .before .before .before .before .args .own in
+    rw (← sub-zero (f .size)) (c .same2 .ensures)
 
 pub is-ours-spec : {M : Type 1} → statement M
 is-ours-spec =
     tie.close
-    (tie.spec
-    cast-n
-    slice-aggregate-same
-    same-requires
-    returns
-    sub-same
-    part-same-start
-    part-same-end
-    same-requires-2
+    (tie.spec cast-n slice-aggregate-same same-requires returns sub-same part-same-start part-same-end same-requires-2
     returns-2)

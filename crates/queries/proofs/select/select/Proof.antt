@@ -1,3 +1,4 @@
+-- `select`: by whether the AID is ours.
 use mathlib.Core.Bool.{true, false}
 use mathlib.Core.Path.{_≡_}
 use borrow.Author.Needs.{needs}
@@ -42,7 +43,7 @@ returns-2 : tie.Need-returns-2
 unfolding selectOf selectAnswer
 returns-2 c =
     let b = c .before .before in
-    let d = b .before .before .before .before .before .before in
+    let d = b .before .before .before .before .before in
     let q = d .before .is-ours in
     let e : q .result ≡ true = not-false (q .result) (d .if1 .left) in
     let a = b .select-answer .ensures in
@@ -51,14 +52,5 @@ returns-2 c =
 pub select-spec : {M : Type 1} → statement M
 select-spec =
     tie.close
-    (tie.spec
-    is-ours-requires
-    reselected-requires
-    refused-requires
-    returns
-    administrative-requires
-    operational-requires
-    select-answer-requires
-    reselected-requires-2
-    done-requires
-    returns-2)
+    (tie.spec is-ours-requires reselected-requires refused-requires returns administrative-requires
+    operational-requires select-answer-requires reselected-requires-2 done-requires returns-2)

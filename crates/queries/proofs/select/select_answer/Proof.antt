@@ -1,3 +1,4 @@
+-- `select_answer`: the buffer holds its three pieces.
 use mathlib.Core.List.{[], _∷_, _++_, append-assoc}
 use mathlib.Core.Path.{_≡_, refl, sym, ap, _∙_}
 use native.Mathlib.Omega.{arith}
@@ -39,10 +40,4 @@ returns c =
 pub select-answer-spec : {M : Type 1} → statement M
 select-answer-spec =
     tie.close
-    (tie.spec
-    empty-requires
-    append4-requires
-    append-byte-requires
-    slice-aggregate-append
-    append-requires
-    returns)
+    (tie.spec empty-requires append4-requires append-byte-requires slice-aggregate-append append-requires returns)

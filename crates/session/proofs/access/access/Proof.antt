@@ -34,12 +34,5 @@ returns-3 c = rw (c .before .before .level2 .given .1) (c .access-of2 .ensures)
 pub access-spec : {M : Type 1} → statement M
 access-spec =
     tie.close
-    (tie.spec
-    enum-told
-    enum-known-level
-    access-of-requires
-    enum-known-level-2
-    access-of-requires-2
-    returns
-    returns-2
+    (tie.spec enum-told enum-known-level access-of-requires enum-known-level-2 access-of-requires-2 returns returns-2
     returns-3)

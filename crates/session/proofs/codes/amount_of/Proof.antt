@@ -35,12 +35,4 @@ returns-4 c = rw (c .before .pending2 .given .1)
 pub amount-of-spec : {M : Type 1} → statement M
 amount-of-spec =
     tie.close
-    (tie.spec
-    enum-told
-    enum-told-2
-    enum-known-pending
-    enum-known-pending-2
-    returns
-    returns-2
-    returns-3
-    returns-4)
+    (tie.spec enum-told enum-told-2 enum-known-pending enum-known-pending-2 returns returns-2 returns-3 returns-4)

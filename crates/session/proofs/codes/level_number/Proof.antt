@@ -39,13 +39,5 @@ returns-3 c = rw (c .before .before .level2 .given .1, c .set-number2 .ensures)
 pub level-number-spec : {M : Type 1} → statement M
 level-number-spec =
     tie.close
-    (tie.spec
-    enum-told
-    enum-known-level
-    set-number-requires
-    enum-known-level-2
-    set-number-requires-2
-    add-result
-    returns
-    returns-2
-    returns-3)
+    (tie.spec enum-told enum-known-level set-number-requires enum-known-level-2 set-number-requires-2 add-result
+    returns returns-2 returns-3)

@@ -38,13 +38,5 @@ returns-4 c = rw (c .enum-told3 .given .1)
 pub pending-number-spec : {M : Type 1} → statement M
 pending-number-spec =
     tie.close
-    (tie.spec
-    enum-told
-    enum-known-pending
-    set-number-requires
-    enum-told-2
-    enum-told-3
-    returns
-    returns-2
-    returns-3
+    (tie.spec enum-told enum-known-pending set-number-requires enum-told-2 enum-told-3 returns returns-2 returns-3
     returns-4)

@@ -32,12 +32,5 @@ returns c = rw (← c .before .word-at .ensures, ← c .before .before .byte-at3
 pub decode-spec : {M : Type 1} → statement M
 decode-spec =
     tie.close
-    (tie.spec
-    decode-channel-requires
-    decode-offer-requires
-    byte-at-requires
-    byte-at-requires-2
-    byte-at-requires-3
-    word-at-requires
-    pending-of-requires
-    returns)
+    (tie.spec decode-channel-requires decode-offer-requires byte-at-requires byte-at-requires-2 byte-at-requires-3
+    word-at-requires pending-of-requires returns)

@@ -29,11 +29,5 @@ returns c = rw (← c .before .before .before .before .before .byte-at .ensures,
 pub decode-channel-spec : {M : Type 1} → statement M
 decode-channel-spec =
     tie.close
-    (tie.spec
-    byte-at-requires
-    level-of-requires
-    part16-requires
-    part16-requires-2
-    part8-requires
-    part8-requires-2
+    (tie.spec byte-at-requires level-of-requires part16-requires part16-requires-2 part8-requires part8-requires-2
     returns)

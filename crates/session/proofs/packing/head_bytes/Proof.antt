@@ -30,12 +30,5 @@ returns c = rw (c .low .ensures, c .before .high .ensures, c .before .before .pe
 pub head-bytes-spec : {M : Type 1} → statement M
 head-bytes-spec =
     tie.close
-    (tie.spec
-    amount-of-requires
-    flag-byte-requires
-    flag-byte-requires-2
-    level-number-requires
-    pending-number-requires
-    high-requires
-    low-requires
-    returns)
+    (tie.spec amount-of-requires flag-byte-requires flag-byte-requires-2 level-number-requires pending-number-requires
+    high-requires low-requires returns)

@@ -86,15 +86,5 @@ returns c =
 pub pack-spec : {M : Type 1} → statement M
 pack-spec =
     tie.close
-    (tie.spec
-    empty-requires
-    head-bytes-requires
-    append8-requires
-    append16-requires
-    append16-requires-2
-    append8-requires-2
-    append8-requires-3
-    append16-requires-3
-    append16-requires-4
-    append8-requires-4
-    returns)
+    (tie.spec empty-requires head-bytes-requires append8-requires append16-requires append16-requires-2
+    append8-requires-2 append8-requires-3 append16-requires-3 append16-requires-4 append8-requires-4 returns)

@@ -41,11 +41,4 @@ returns-2 c =
 pub unpack-spec : {M : Type 1} → statement M
 unpack-spec =
     tie.close
-    (tie.spec
-    decode-requires
-    pack-requires
-    slice-aggregate-same
-    same-requires
-    returns
-    unselected-requires
-    returns-2)
+    (tie.spec decode-requires pack-requires slice-aggregate-same same-requires returns unselected-requires returns-2)

@@ -50,14 +50,5 @@ returns-3 c =
 pub turn-spec : {M : Type 1} → statement M
 turn-spec =
     tie.close
-    (tie.spec
-    enum-told
-    triple-under-requires
-    enum-told-2
-    chained-requires
-    enum-told-3
-    triple-under-requires-2
-    xor-blocks-requires
-    returns
-    returns-2
-    returns-3)
+    (tie.spec enum-told triple-under-requires enum-told-2 chained-requires enum-told-3 triple-under-requires-2
+    xor-blocks-requires returns returns-2 returns-3)

@@ -77,19 +77,5 @@ returns c =
 pub walk-spec : {M : Type 1} → statement M
 walk-spec =
     tie.close
-    (tie.spec
-    Inv-loop
-    μ-loop
-    outer-keys-requires
-    inner-keys-requires
-    loop-holds
-    mul-at
-    part8-requires
-    turn-requires
-    slice-aggregate-paste
-    paste-requires
-    add-i
-    loop-less
-    loop-again
-    same-length
-    returns)
+    (tie.spec Inv-loop μ-loop outer-keys-requires inner-keys-requires loop-holds mul-at part8-requires turn-requires
+    slice-aggregate-paste paste-requires add-i loop-less loop-again same-length returns)

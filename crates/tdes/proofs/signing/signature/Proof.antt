@@ -90,19 +90,5 @@ returns c =
 pub signature-spec : {M : Type 1} → statement M
 signature-spec =
     tie.close
-    (tie.spec
-    Inv-loop
-    μ-loop
-    outer-keys-requires
-    inner-keys-requires
-    loop-holds
-    part8-requires
-    chained-requires
-    sub-rest
-    part-rest-start
-    part-rest-end
-    loop-less
-    loop-again
-    padded-block-requires
-    chained-requires-2
-    returns)
+    (tie.spec Inv-loop μ-loop outer-keys-requires inner-keys-requires loop-holds part8-requires chained-requires
+    sub-rest part-rest-start part-rest-end loop-less loop-again padded-block-requires chained-requires-2 returns)

@@ -1,3 +1,4 @@
+-- `answer_mac`: the bytes that the buffer holds.
 use mathlib.Core.Path.{_∙_}
 use Rattle.octets.proofs.Holding.{content-holding}
 use borrow.Author.Needs.{needs}

@@ -1,3 +1,4 @@
+-- `with_mac`: eight bytes fit behind 118.
 use mathlib.Core.Path.{_≡_, _∙_}
 use native.Mathlib.Omega.{arith}
 use lib.ListN.{length, length-append}

@@ -1,3 +1,4 @@
+-- `is_debit`: by what is pending.
 use Rattle.commands_spec.specs.CompleteTransaction.{isDebit}
 use borrow.Author.Needs.{needs}
 use Rattle.transactions.proofs.complete_transaction.is_debit.Statement.{statement}

@@ -1,3 +1,4 @@
+-- `is_noted`: by what is pending.
 use Rattle.commands_spec.specs.CompleteTransaction.{isNoted}
 use borrow.Author.Needs.{needs}
 use Rattle.transactions.proofs.complete_transaction.is_noted.Statement.{statement}

@@ -1,69 +1,15 @@
-use mathlib.Core.Path.{_≡_, refl, _∙_}
-use lib.ListN.{length}
-use Rattle.octets.proofs.Holding.{none, step}
+-- `log_record`: field by field.
 use Rattle.commands_spec.specs.CompleteTransaction.{logRecord}
-use Rattle.transactions.proofs.Fronts.{front}
 use borrow.Author.Needs.{needs}
 use Rattle.transactions.proofs.complete_transaction.log_record.Statement.{statement}
 use Rattle.transactions.proofs.complete_transaction.log_record.Tie as tie
 
-context-size : (s : tie.Start) → length (s .args .context) ≡ 16
-context-size s = search needs
-
-empty-requires : tie.Need-empty-requires
-empty-requires c κs = search needs
-
-append-word-requires : tie.Need-append-word-requires
-append-word-requires c κs = search needs
-
-append-word-requires-2 : tie.Need-append-word-requires-2
-append-word-requires-2 c κs = search needs
-
 log-amount-requires : tie.Need-log-amount-requires
 log-amount-requires c κs = search needs
 
-append-word-requires-3 : tie.Need-append-word-requires-3
-append-word-requires-3 c κs = search needs
-
-append-word-requires-4 : tie.Need-append-word-requires-4
-append-word-requires-4 c κs = search needs
-
-append16-requires : tie.Need-append16-requires
-append16-requires c κs = search needs
-
-slice-aggregate-part24 : tie.Need-slice-aggregate-part24
-slice-aggregate-part24 c = search needs
-
-part24-requires : tie.Need-part24-requires
-part24-requires c κs = search needs
-
 returns : tie.Need-returns
 unfolding logRecord
-returns c =
-    let e = c .before .before .before in
-    let d = e .before in
-    let w = d .before in
-    let l = w .before in
-    let b = l .before in
-    let a = b .before in
-    let h1 = step _ 2 (a .append-word .ensures) (none _ (a .before .empty .ensures)) refl tt in
-    let h2 = step _ 2 (b .append-word2 .ensures) h1 refl tt in
-    let h3 = step _ 2 (w .append-word3 .ensures) h2 refl tt in
-    let h4 = step _ 2 (d .append-word4 .ensures) h3 refl tt in
-    let h = step _ 16 (e .append16 .ensures) h4 (context-size (a .before .before)) tt in
-    rw (← l .log-amount .ensures) (c .part24 .ensures ∙ front h)
+returns c = rw (c .log-amount .ensures)
 
 pub log-record-spec : {M : Type 1} → statement M
-log-record-spec =
-    tie.close
-    (tie.spec
-    empty-requires
-    append-word-requires
-    append-word-requires-2
-    log-amount-requires
-    append-word-requires-3
-    append-word-requires-4
-    append16-requires
-    slice-aggregate-part24
-    part24-requires
-    returns)
+log-record-spec = tie.close (tie.spec log-amount-requires returns)

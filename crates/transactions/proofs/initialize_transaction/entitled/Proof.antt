@@ -1,3 +1,4 @@
+-- `entitled`: by P1, and the flag.
 use Rattle.commands_spec.specs.InitializeTransaction.{entitled}
 use Rattle.octets.proofs.Rules.{rules, rules-not}
 use Rattle.transactions.proofs.initialize_transaction.entitled.Statement.{statement}

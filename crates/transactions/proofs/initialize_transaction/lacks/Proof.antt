@@ -1,3 +1,4 @@
+-- `lacks`: by its tests.
 use mathlib.Core.Bool.{true}
 use mathlib.Core.Path.{_≡_}
 use borrow.Author.Tests.{eq-eqb, not-false}

@@ -1,3 +1,4 @@
+-- `noted`: by its test.
 use Rattle.octets.proofs.Rules.{rules}
 use Rattle.commands_spec.specs.InitializeTransaction.{noted}
 use Rattle.transactions.proofs.initialize_transaction.noted.Statement.{statement}

@@ -1,3 +1,4 @@
+-- `keeps_limits`: the sum is made in four bytes.
 use Rattle.commands_spec.specs.Transaction.{keepsLimits}
 use Rattle.octets.proofs.Rules.{rules}
 use borrow.Author.Needs.{needs}

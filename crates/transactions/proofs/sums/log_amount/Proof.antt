@@ -1,3 +1,4 @@
+-- `log_amount`: a debit's complement is made in four bytes.
 use Rattle.commands_spec.specs.Transaction.{logAmount}
 use Rattle.octets.proofs.Rules.{rules}
 use borrow.Author.Needs.{needs}

@@ -1,3 +1,4 @@
+-- `new_balance`: a difference below zero is zero.
 use native.Mathlib.Omega.{arith}
 use Rattle.commands_spec.specs.Transaction.{newBalance}
 use borrow.Author.Needs.{needs}

@@ -1,3 +1,4 @@
+-- `is_right`: its callees, in their order.
 use borrow.Author.Needs.{needs}
 use Rattle.transactions.proofs.verify_pin.is_right.Statement.{statement}
 use Rattle.transactions.proofs.verify_pin.is_right.Tie as tie

@@ -1,3 +1,4 @@
+-- `tried`: no try is left of none.
 use mathlib.Core.Path.{refl}
 use borrow.Author.Needs.{needs}
 use Rattle.commands_spec.specs.Outcomes.{tried}

@@ -1,6 +1,7 @@
-use borrow.Author.Tests.{eq-eqb, ne-eqb}
-use Rattle.commands_spec.specs.Outcomes.{decided}
+-- `verify_pin`: the status word decides.
 use Rattle.commands_spec.specs.VerifyPin.{verifyPinOf}
+use Rattle.commands_spec.specs.Outcomes.{decided}
+use borrow.Author.Tests.{eq-eqb, ne-eqb}
 use borrow.Author.Needs.{needs}
 use Rattle.transactions.proofs.verify_pin.verify_pin.Statement.{statement}
 use Rattle.transactions.proofs.verify_pin.verify_pin.Tie as tie
@@ -38,12 +39,5 @@ returns-2 c =
 pub verify-pin-spec : {M : Type 1} → statement M
 verify-pin-spec =
     tie.close
-    (tie.spec
-    access-requires
-    verify-status-requires
-    ended-requires
-    refused-requires
-    returns
-    is-right-requires
-    judged-requires
-    returns-2)
+    (tie.spec access-requires verify-status-requires ended-requires refused-requires returns is-right-requires
+    judged-requires returns-2)

@@ -1,3 +1,4 @@
+-- `verify_status`: by its tests.
 use Rattle.commands_spec.specs.VerifyPin.{verifyStatus}
 use Rattle.octets.proofs.Rules.{rules}
 use Rattle.transactions.proofs.verify_pin.verify_status.Statement.{statement}

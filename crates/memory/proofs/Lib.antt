@@ -1,0 +1,14 @@
+pub mod Places
+pub mod RoundTrip
+pub mod Ring
+pub mod Seen
+pub mod Cards
+pub mod Live
+pub mod Cut
+pub mod Done
+pub mod Images
+pub mod Installation
+pub mod Bounds
+pub mod InPlace
+pub mod Packing
+pub mod Runs

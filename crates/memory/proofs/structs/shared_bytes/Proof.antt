@@ -1,0 +1,48 @@
+-- shared_bytes: two pieces, one after the other.
+use mathlib.Core.Path.{refl, _∙_}
+use mathlib.Core.List.{[], _∷_}
+use Rattle.stores.specs.Fields.{joined}
+use Rattle.memory.specs.Structs.{sharedBytes}
+use Rattle.memory.proofs.Packing.{two}
+use Rattle.card.specs.Keys.{keysSize}
+use borrow.Author.Needs.{needs}
+use Rattle.memory.proofs.structs.shared_bytes.Statement.{statement}
+use Rattle.memory.proofs.structs.shared_bytes.Tie as tie
+
+high-requires : tie.Need-high-requires
+high-requires c κs = search needs
+
+low-requires : tie.Need-low-requires
+low-requires c κs = search needs
+
+keys-bytes-requires : tie.Need-keys-bytes-requires
+keys-bytes-requires c κs = search needs
+
+slice-aggregate-paste : tie.Need-slice-aggregate-paste
+slice-aggregate-paste c = search needs
+
+slice-aggregate-paste-2 : tie.Need-slice-aggregate-paste-2
+slice-aggregate-paste-2 c = search needs
+
+paste-requires : tie.Need-paste-requires
+paste-requires c κs = search needs
+
+slice-aggregate-paste-3 : tie.Need-slice-aggregate-paste-3
+slice-aggregate-paste-3 c = search needs
+
+slice-aggregate-paste-4 : tie.Need-slice-aggregate-paste-4
+slice-aggregate-paste-4 c = search needs
+
+paste-requires-2 : tie.Need-paste-requires-2
+paste-requires-2 c κs = search needs
+
+returns : tie.Need-returns
+unfolding sharedBytes
+returns c =
+    two _ _ _ _ _ 2 keysSize refl (search needs) refl (c .before .before .before .before .before .paste .ensures) (c .before .paste2 .ensures)
+    ∙ (λ i. joined ((c .before .before .before .before .before .before .before .before .before .before .high .ensures i ∷ c .before .before .before .before .before .before .before .before .before .low .ensures i ∷ []) ∷ c .before .before .before .before .before .before .before .before .keys-bytes .ensures i ∷ []))
+
+pub shared-bytes-spec : {M : Type 1} → statement M
+shared-bytes-spec =
+    tie.close (tie.spec high-requires low-requires keys-bytes-requires slice-aggregate-paste slice-aggregate-paste-2 paste-requires
+    slice-aggregate-paste-3 slice-aggregate-paste-4 paste-requires-2 returns)

@@ -1,0 +1,4 @@
+pub mod Layout
+pub mod Structs
+pub mod Reading
+pub mod Changes

@@ -1,0 +1,10 @@
+// What a command comes with besides its bytes.
+use apdu::Apdu;
+use card::Record;
+
+// The command's header; the log record that it would read, as the caller found it; the random bytes that are lent.
+pub struct Request {
+    pub header: Apdu,
+    pub found: Record,
+    pub random: [u8; 8],
+}
