@@ -1,5 +1,5 @@
--- The calls of a bench file as a list of demand 3: where a call that is no start-up follows a torn one, a start-up is put between. It makes no
--- store and ends the session, which after answer 7 is the unselected one in any case. Assumes nothing.
+-- The calls of a bench file as a list of demand 3: where a call that is no start-up follows a torn one, a start-up is put between.
+-- It makes no store and ends the session, which after answer 7 is the unselected one in any case. Assumes nothing.
 use mathlib.Core.Bool.{Bool, true, false, not, _&&_}
 use mathlib.Core.List.{List, [], _∷_}
 use mathlib.Core.Path.{_≡_}

@@ -1,6 +1,6 @@
--- Which heads there are, by numbers and bytes: document 01, "Readable": "Every card within the ranges below, with tries, balance and number at
--- most their maxima, parameters .. zero until personalized, set 3 defined, and sets 1 and 2 once personalized". The laws on `Proper`'s tests
--- are stated with it; the log's rule is a field of `Proper` itself, and set 3 is defined by its type. Assumes nothing.
+-- Which heads there are, by numbers and bytes: document 01, "Readable": "Every card within the ranges below, with tries, balance and
+-- number at most their maxima, parameters .. zero until personalized, set 3 defined, and sets 1 and 2 once personalized". The laws on
+-- `Proper`'s tests are stated with it; the log's rule is a field of `Proper` itself, and set 3 is defined by its type. Assumes nothing.
 use mathlib.Core.Bool.{true, false}
 use mathlib.Core.Path.{_≡_}
 use Prim.Native.Nat.{ℕ, _-_, _≤_}
@@ -46,7 +46,8 @@ pub record InRanges (h : Head) : Type 0 where
   -- "5–16", or undefined
   pub agent : (h .purse .parameters .agent .size ≡ 0 → ⊥) → 5 ≤ h .purse .parameters .agent .size
   pub agent-most : h .purse .parameters .agent .size ≤ 16
-  pub agent-after : drop (h .purse .parameters .agent .size) (h .purse .parameters .agent .bytes) ≡ zeros (16 - h .purse .parameters .agent .size)
+  pub agent-after :
+      drop (h .purse .parameters .agent .size) (h .purse .parameters .agent .bytes) ≡ zeros (16 - h .purse .parameters .agent .size)
   pub bank : h .purse .parameters .bank .defined ≡ false → h .purse .parameters .bank .value ≡ zeros 16
   -- "tries, balance and number at most their maxima"
   pub tries : h .state .tries ≤ h .fixed .maxtries

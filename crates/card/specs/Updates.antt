@@ -34,7 +34,13 @@ withParameters q h =
 -- tag 05
 unfoldable pub withMaxnumber : ℕ → Head → Head
 withMaxnumber n h =
-    record { fixed = h .fixed; shared = record { maxnumber = n; admin = h .shared .admin }; purse = h .purse; pin = h .pin; state = h .state }
+    record {
+      fixed = h .fixed;
+      shared = record { maxnumber = n; admin = h .shared .admin };
+      purse = h .purse;
+      pin = h .pin;
+      state = h .state;
+    }
 
 -- a PIN, with tries full
 unfoldable pub withPin : List ℕ → Head → Head

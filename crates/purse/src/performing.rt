@@ -63,7 +63,8 @@ fn answer(area: &mut [u8], reply: Buffer, n: usize, limit: usize)
 
 // Memory first, then the response.
 pub fn perform(memory: &mut [u8], outcome: Outcome, area: &mut [u8], limit: usize) -> Called
-    ensures { λ r. ⌜ Gives (outcomeRun outcome (now (memory .entry)) (now (area .entry)) limit) r (now (memory .exit)) (now (area .exit)) ⌝ }
+    ensures { λ r. ⌜ Gives (outcomeRun outcome (now (memory .entry)) (now (area .entry)) limit)
+        r (now (memory .exit)) (now (area .exit)) ⌝ }
 {
     let commits = outcome.commits;
     let head = outcome.head;
