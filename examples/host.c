@@ -13,10 +13,13 @@
 
 enum { BLOCK = 8, KEY = 16, KEYS = 3 * KEY, DEBIT = 1, CREDIT = 2, ADMIN = 3, WITH_RMAC = 0x11 };
 
-/* The library cipher_c: triple DES in CBC, in place, and signatures. */
-size_t cipher_cbc(const uint8_t *key, size_t key_len, const uint8_t *start, size_t start_len, uint8_t *text, size_t text_len);
-size_t cipher_signature(const uint8_t *key, size_t key_len, const uint8_t *start, size_t start_len, const uint8_t *text,
-                        size_t text_len, uint8_t *out, size_t out_len);
+/* The library cipher_c: triple DES in CBC, in place, and signatures, on either engine. */
+enum { PLAIN, QUICK };
+
+size_t cipher_cbc(uint32_t engine, const uint8_t *key, size_t key_len, const uint8_t *start, size_t start_len, uint8_t *text,
+                  size_t text_len);
+size_t cipher_signature(uint32_t engine, const uint8_t *key, size_t key_len, const uint8_t *start, size_t start_len,
+                        const uint8_t *text, size_t text_len, uint8_t *out, size_t out_len);
 
 /* The card, and the session with it. */
 static uint8_t memory[PURSE_MEMORY], session[PURSE_SESSION], response[PURSE_RESPONSE];
@@ -62,14 +65,14 @@ static void sign(const uint8_t *key, const uint8_t *start, const uint8_t *a, siz
 
     memcpy(text, a, a_len);
     memcpy(text + a_len, b, b_len);
-    cipher_signature(key, KEY, start, BLOCK, text, a_len + b_len, out, BLOCK);
+    cipher_signature(QUICK, key, KEY, start, BLOCK, text, a_len + b_len, out, BLOCK);
 }
 
 /* Triple DES in ECB. */
 static void encipher(const uint8_t *key, uint8_t *text, size_t len)
 {
     for (size_t i = 0; i < len; i += BLOCK)
-        cipher_cbc(key, KEY, zero, BLOCK, text + i, BLOCK);
+        cipher_cbc(QUICK, key, KEY, zero, BLOCK, text + i, BLOCK);
 }
 
 /* Sends a command with its C-MAC. */

@@ -1,60 +1,30 @@
-/* Speed of the proved cipher beside OpenSSL's DES: two-key triple DES in CBC over one text, and
-   before that the same results on random texts. Exit status 1 if a result differs. */
+/* Speed of the proved cipher's two engines beside OpenSSL's DES, in one run on one core: single DES under one key and under a key for
+   each block, a signature of 39 bytes, and two-key triple DES in CBC; before that the same results on random texts. Exit status 1 if a
+   result differs. */
 
 #define OPENSSL_SUPPRESS_DEPRECATED
-#define _POSIX_C_SOURCE 200809L
+#define _GNU_SOURCE
 
 #include <openssl/des.h>
+#include <sched.h>
 #include <stdint.h>
 #include <stdio.h>
 #include <stdlib.h>
 #include <string.h>
 #include <time.h>
 
-enum { BLOCK = 8, KEY = 16, MOST_COMPARED = 300, COMPARISONS = 500, TEXT = 64 * 1024, RUNS = 5 };
+enum { PLAIN, QUICK, OPENSSL, ENGINES };
+enum { BLOCK = 8, KEY = 16, MOST_COMPARED = 300, COMPARISONS = 500, SIGNED = 39, TEXT = 64 * 1024, ROUNDS = 200, PLAIN_EACH = 10 };
 
-/* The library cipher_c, proved in Rattle. */
-size_t cipher_cbc(const uint8_t *key, size_t key_len, const uint8_t *start, size_t start_len,
-                  uint8_t *text, size_t text_len);
-size_t cipher_signature(const uint8_t *key, size_t key_len, const uint8_t *start, size_t start_len,
-                        const uint8_t *text, size_t text_len, uint8_t *out, size_t out_len);
+static const char *names[ENGINES] = {"plain", "quick", "OpenSSL"};
 
-/* CBC in place over the whole blocks of a text; the number of blocks. */
-typedef size_t cbc_function(const uint8_t *key, const uint8_t *start, uint8_t *text, size_t length);
-
-static size_t rattle_cbc(const uint8_t *key, const uint8_t *start, uint8_t *text, size_t length)
-{
-    return cipher_cbc(key, KEY, start, BLOCK, text, length);
-}
-
-static size_t openssl_cbc(const uint8_t *key, const uint8_t *start, uint8_t *text, size_t length)
-{
-    DES_cblock first, second, chain;
-    DES_key_schedule first_schedule, second_schedule;
-    size_t blocks = length / BLOCK;
-
-    memcpy(first, key, BLOCK);
-    memcpy(second, key + BLOCK, BLOCK);
-    memcpy(chain, start, BLOCK);
-    DES_set_key_unchecked(&first, &first_schedule);
-    DES_set_key_unchecked(&second, &second_schedule);
-    DES_ede2_cbc_encrypt(text, text, (long)(blocks * BLOCK), &first_schedule, &second_schedule,
-                         &chain, DES_ENCRYPT);
-    return blocks;
-}
-
-/* The last block of CBC over the text, 80 and zeros to a whole block. */
-static void openssl_signature(const uint8_t *key, const uint8_t *start, const uint8_t *text,
-                              size_t length, uint8_t *out)
-{
-    uint8_t padded[MOST_COMPARED + BLOCK] = {0};
-    size_t whole = (length / BLOCK + 1) * BLOCK;
-
-    memcpy(padded, text, length);
-    padded[length] = 0x80;
-    openssl_cbc(key, start, padded, whole);
-    memcpy(out, padded + whole - BLOCK, BLOCK);
-}
+/* The library cipher_c, proved in Rattle; its engines are 0 and 1. */
+size_t cipher_cbc(uint32_t engine, const uint8_t *key, size_t key_len, const uint8_t *start, size_t start_len, uint8_t *text,
+                  size_t text_len);
+size_t cipher_signature(uint32_t engine, const uint8_t *key, size_t key_len, const uint8_t *start, size_t start_len, const uint8_t *text,
+                        size_t text_len, uint8_t *out, size_t out_len);
+size_t cipher_des(uint32_t engine, const uint8_t *key, size_t key_len, uint8_t *text, size_t text_len);
+size_t cipher_des_each(uint32_t engine, const uint8_t *keys, size_t keys_len, uint8_t *text, size_t text_len);
 
 /* Random bytes by xorshift64 from a fixed seed. */
 static void fill(uint8_t *bytes, size_t length)
@@ -69,34 +39,140 @@ static void fill(uint8_t *bytes, size_t length)
     }
 }
 
-static void differ(const char *what, size_t length)
+/* ---- what is measured: each on an engine, over `length` bytes of text */
+
+static uint8_t keys[TEXT], start[BLOCK];
+
+static void openssl_key(const uint8_t *bytes, DES_key_schedule *schedule)
 {
-    printf("%s differs from OpenSSL's, text of %zu bytes\n", what, length);
-    exit(1);
+    DES_cblock key;
+
+    memcpy(key, bytes, BLOCK);
+    DES_set_key_unchecked(&key, schedule);
 }
 
-/* CBC and signature of both on one random key, start value and text. */
+static void one_key(int engine, uint8_t *text, size_t length)
+{
+    DES_key_schedule schedule;
+
+    if (engine != OPENSSL) {
+        cipher_des((uint32_t)engine, keys, BLOCK, text, length);
+        return;
+    }
+    openssl_key(keys, &schedule);
+    for (size_t i = 0; i + BLOCK <= length; i += BLOCK)
+        DES_ecb_encrypt((const_DES_cblock *)(text + i), (DES_cblock *)(text + i), &schedule, DES_ENCRYPT);
+}
+
+static void key_each(int engine, uint8_t *text, size_t length)
+{
+    DES_key_schedule schedule;
+
+    if (engine != OPENSSL) {
+        cipher_des_each((uint32_t)engine, keys, length / BLOCK * BLOCK, text, length);
+        return;
+    }
+    for (size_t i = 0; i + BLOCK <= length; i += BLOCK) {
+        openssl_key(keys + i, &schedule);
+        DES_ecb_encrypt((const_DES_cblock *)(text + i), (DES_cblock *)(text + i), &schedule, DES_ENCRYPT);
+    }
+}
+
+static void cbc_under(int engine, const uint8_t *key, const uint8_t *from, uint8_t *text, size_t length)
+{
+    DES_cblock chain;
+    DES_key_schedule first, second;
+
+    if (engine != OPENSSL) {
+        cipher_cbc((uint32_t)engine, key, KEY, from, BLOCK, text, length);
+        return;
+    }
+    memcpy(chain, from, BLOCK);
+    openssl_key(key, &first);
+    openssl_key(key + BLOCK, &second);
+    DES_ede2_cbc_encrypt(text, text, (long)(length / BLOCK * BLOCK), &first, &second, &chain, DES_ENCRYPT);
+}
+
+static void cbc(int engine, uint8_t *text, size_t length)
+{
+    cbc_under(engine, keys, start, text, length);
+}
+
+/* The last block of CBC over the text, 80 and zeros to a whole block. */
+static void signature(int engine, const uint8_t *key, const uint8_t *from, const uint8_t *text, size_t length, uint8_t *out)
+{
+    uint8_t padded[MOST_COMPARED + BLOCK];
+    size_t whole = (length / BLOCK + 1) * BLOCK;
+
+    if (engine != OPENSSL) {
+        cipher_signature((uint32_t)engine, key, KEY, from, BLOCK, text, length, out, BLOCK);
+        return;
+    }
+    memcpy(padded, text, length);
+    memset(padded + length, 0, whole - length);
+    padded[length] = 0x80;
+    cbc_under(engine, key, from, padded, whole);
+    memcpy(out, padded + whole - BLOCK, BLOCK);
+}
+
+/* A signature of each 39 bytes, under a key of its own, written over the first 8 of them. */
+static void signatures(int engine, uint8_t *text, size_t length)
+{
+    uint8_t out[BLOCK];
+
+    for (size_t i = 0; i + SIGNED <= length; i += SIGNED) {
+        signature(engine, keys + i, start, text + i, SIGNED, out);
+        memcpy(text + i, out, BLOCK);
+    }
+}
+
+typedef void measured(int engine, uint8_t *text, size_t length);
+
+static const struct {
+    const char *name;
+    measured *run;
+    size_t unit; /* bytes of text to an operation */
+} measures[] = {
+    {"DES blocks, one key", one_key, BLOCK},
+    {"DES blocks, a key each", key_each, BLOCK},
+    {"signatures of 39 bytes", signatures, SIGNED},
+    {"triple-DES blocks, CBC", cbc, BLOCK},
+};
+
+enum { MEASURES = sizeof measures / sizeof measures[0] };
+
+/* ---- the same results */
+
+static void same(const char *what, const uint8_t *ours, const uint8_t *theirs, size_t length)
+{
+    if (memcmp(ours, theirs, length) != 0) {
+        printf("%s differs from OpenSSL's, text of %zu bytes\n", what, length);
+        exit(1);
+    }
+}
+
 static void compare(size_t length)
 {
-    uint8_t key[KEY], start[BLOCK], signature[BLOCK], expected[BLOCK];
-    uint8_t text[MOST_COMPARED], ours[MOST_COMPARED], theirs[MOST_COMPARED];
-    size_t written;
+    uint8_t text[MOST_COMPARED], ours[MOST_COMPARED], theirs[MOST_COMPARED], mac[BLOCK], expected[BLOCK];
 
-    fill(key, KEY);
+    fill(keys, sizeof keys);
     fill(start, BLOCK);
     fill(text, length);
-
-    written = cipher_signature(key, KEY, start, BLOCK, text, length, signature, BLOCK);
-    openssl_signature(key, start, text, length, expected);
-    if (written != BLOCK || memcmp(signature, expected, BLOCK) != 0)
-        differ("the signature", length);
-
-    memcpy(ours, text, length);
-    memcpy(theirs, text, length);
-    if (rattle_cbc(key, start, ours, length) != openssl_cbc(key, start, theirs, length)
-        || memcmp(ours, theirs, length) != 0)
-        differ("CBC", length);
+    for (int engine = PLAIN; engine <= QUICK; engine++) {
+        for (int m = 0; m < MEASURES; m++) {
+            memcpy(ours, text, length);
+            memcpy(theirs, text, length);
+            measures[m].run(engine, ours, length);
+            measures[m].run(OPENSSL, theirs, length);
+            same(measures[m].name, ours, theirs, length);
+        }
+        signature(engine, keys, start, text, length, mac);
+        signature(OPENSSL, keys, start, text, length, expected);
+        same("a signature", mac, expected, BLOCK);
+    }
 }
+
+/* ---- speed */
 
 static double seconds(void)
 {
@@ -106,51 +182,52 @@ static double seconds(void)
     return (double)now.tv_sec + (double)now.tv_nsec / 1e9;
 }
 
-/* Triple-DES blocks per second of the best run over the text; result is the text enciphered. */
-static double speed(cbc_function *cbc, const uint8_t *text, uint8_t *result)
+/* Operations per second of each engine, the best of many rounds in which they take turns; the plain engine takes part in some. */
+static void speeds(int m, double best[ENGINES])
 {
-    static const uint8_t key[KEY] = {0x01, 0x23, 0x45, 0x67, 0x89, 0xAB, 0xCD, 0xEF,
-                                     0x23, 0x45, 0x67, 0x89, 0xAB, 0xCD, 0xEF, 0x01};
-    static const uint8_t start[BLOCK] = {0xF6, 0x9F, 0x24, 0x45, 0xDF, 0x4F, 0x9B, 0x17};
-    double best = 0;
+    static uint8_t text[TEXT], work[TEXT];
 
-    for (int run = 0; run < RUNS; run++) {
-        memcpy(result, text, TEXT);
-        double before = seconds();
-        size_t blocks = cbc(key, start, result, TEXT);
-        double rate = (double)blocks / (seconds() - before);
-        if (rate > best)
-            best = rate;
+    fill(text, TEXT);
+    for (int engine = 0; engine < ENGINES; engine++)
+        best[engine] = 0;
+    for (int round = 0; round < ROUNDS; round++) {
+        for (int engine = 0; engine < ENGINES; engine++) {
+            if (engine == PLAIN && round % PLAIN_EACH != 0)
+                continue;
+            memcpy(work, text, TEXT);
+            double before = seconds();
+            measures[m].run(engine, work, TEXT);
+            double rate = (double)(TEXT / measures[m].unit) / (seconds() - before);
+            if (rate > best[engine])
+                best[engine] = rate;
+        }
     }
-    return best;
 }
 
-static void print_speed(const char *name, double rate)
+/* All on the core where the program runs now. */
+static void stay(void)
 {
-    printf("%-8s %12.0f triple-DES blocks/s, %12.0f DES blocks/s\n", name, rate, 3 * rate);
+    cpu_set_t set;
+
+    CPU_ZERO(&set);
+    CPU_SET((size_t)sched_getcpu(), &set);
+    sched_setaffinity(0, sizeof set, &set);
 }
 
 int main(void)
 {
-    static uint8_t text[TEXT], ours[TEXT], theirs[TEXT];
-    double rattle, openssl;
-
+    stay();
     for (size_t i = 0; i < COMPARISONS; i++)
         compare(i % (MOST_COMPARED + 1));
-    printf("%d random texts of 0 to %d bytes: CBC and signature equal OpenSSL's\n", COMPARISONS,
-           MOST_COMPARED);
+    printf("%d random texts of 0 to %d bytes: both engines give what OpenSSL gives\n", COMPARISONS, MOST_COMPARED);
+    printf("a second, best of %d rounds in which the engines take turns on one core; the ratio is to OpenSSL's speed\n", ROUNDS);
+    for (int m = 0; m < MEASURES; m++) {
+        double best[ENGINES];
 
-    fill(text, TEXT);
-    rattle = speed(rattle_cbc, text, ours);
-    openssl = speed(openssl_cbc, text, theirs);
-    if (memcmp(ours, theirs, TEXT) != 0)
-        differ("CBC", TEXT);
-
-    printf("two-key triple DES in CBC, text of %d bytes, key schedules included, best of %d runs\n",
-           TEXT, RUNS);
-    print_speed("Rattle", rattle);
-    print_speed("OpenSSL", openssl);
-    printf("ratio    Rattle / OpenSSL = %.4f (OpenSSL is %.1f times as fast)\n", rattle / openssl,
-           openssl / rattle);
+        speeds(m, best);
+        printf("%s\n", measures[m].name);
+        for (int engine = 0; engine < ENGINES; engine++)
+            printf("    %-8s %12.0f   ratio %.4f\n", names[engine], best[engine], best[engine] / best[OPENSSL]);
+    }
     return 0;
 }

@@ -17,6 +17,7 @@ use session::Session;
 use session::access::access;
 use session::ended;
 use session::flagged;
+use tdes::Engine;
 
 // No data: the PIN stays, and no block is judged.
 pub fn unblock_pin(head: Head, session: Session) -> Outcome
@@ -37,7 +38,7 @@ pub fn unblock_pin(head: Head, session: Session) -> Outcome
 }
 
 // A PIN under the DEK.
-pub fn change_pin(head: Head, session: Session, body: [u8; 8]) -> Outcome
+pub fn change_pin(engine: Engine, head: Head, session: Session, body: [u8; 8]) -> Outcome
     ensures { λ r. ⌜ r ≡ pinChangeOf head session body ⌝ }
 {
     let channel = session.channel;
@@ -45,7 +46,7 @@ pub fn change_pin(head: Head, session: Session, body: [u8; 8]) -> Outcome
     if access(level) < ADMIN {
         return refused(head, ended(session), 0x6982);
     }
-    let block = received8(dek_of(level, head), body);
+    let block = received8(engine, dek_of(level, head), body);
     if !well_formed(block) {
         return refused(head, ended(session), 0x6A80);
     }

@@ -17,6 +17,7 @@ use session::ADMIN;
 use session::Session;
 use session::access::access;
 use session::ended;
+use tdes::Engine;
 
 // What PUT DATA doesn't set.
 fn is_locked(tag: u8, balance: u16) -> bool
@@ -74,7 +75,7 @@ pub fn put_data_status(head: Head, session: Session, tag: u8, value: &[u8]) -> u
 }
 
 // Another value for a tag.
-pub fn put_data(head: Head, session: Session, tag: u8, value: &[u8]) -> Outcome
+pub fn put_data(engine: Engine, head: Head, session: Session, tag: u8, value: &[u8]) -> Outcome
     ensures { λ r. ⌜ r ≡ putDataOf head session tag (now (value .entry)) ⌝ }
 {
     let w = put_data_status(head, session, tag, value);
@@ -84,6 +85,6 @@ pub fn put_data(head: Head, session: Session, tag: u8, value: &[u8]) -> Outcome
     }
     let channel = session.channel;
     let level = channel.level;
-    let next = datum_set(dek_of(level, head), tag, value, head);
+    let next = datum_set(engine, dek_of(level, head), tag, value, head);
     granted(Commits::HotAndCold, next, left)
 }

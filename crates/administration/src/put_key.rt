@@ -20,18 +20,19 @@ use session::Session;
 use session::access::access;
 use session::ended;
 use session::set_of;
+use tdes::Engine;
 
 // The head with the keys that were sent under the DEK of the channel's set, as it is before the change.
-fn rekeyed(level: Level, p2: u8, body: [u8; 48], head: Head) -> Head
+fn rekeyed(engine: Engine, level: Level, p2: u8, body: [u8; 48], head: Head) -> Head
     ensures { λ r. ⌜ r ≡ withKeys (setOf p2) (keysIn (received (dekOf level head) body)) head ⌝ }
 {
     let set = set_of(p2);
-    let bytes = received48(dek_of(level, head), body);
+    let bytes = received48(engine, dek_of(level, head), body);
     with_keys(set, keys_in(&bytes), head)
 }
 
 // Another three keys for a set.
-pub fn put_key(head: Head, session: Session, p2: u8, body: [u8; 48]) -> Outcome
+pub fn put_key(engine: Engine, head: Head, session: Session, p2: u8, body: [u8; 48]) -> Outcome
     ensures { λ r. ⌜ r ≡ putKeyOf head session p2 body ⌝ }
 {
     let channel = session.channel;
@@ -40,5 +41,9 @@ pub fn put_key(head: Head, session: Session, p2: u8, body: [u8; 48]) -> Outcome
     if access(level) < ADMIN {
         return refused(head, left, 0x6982);
     }
-    granted(Commits::HotAndCold, rekeyed(level, p2, body, head), left)
+    granted(
+        Commits::HotAndCold,
+        rekeyed(engine, level, p2, body, head),
+        left,
+    )
 }

@@ -19,6 +19,7 @@ use session::ADMIN;
 use session::Session;
 use session::access::access;
 use session::ended;
+use tdes::Engine;
 
 // STORE DATA; `inside` says that no TLV is past the end, `good` that the rest of the data is right.
 pub fn store_status(personalized: bool, keyed: bool, held: u8, inside: bool, good: bool) -> u16
@@ -101,7 +102,7 @@ fn marked(seen: [u8; 8], tag: u8) -> [u8; 8]
 }
 
 // One TLV more.
-pub fn stored(dek: [u8; 16], st: Stored, tag: u8, v: &[u8]) -> Stored
+pub fn stored(engine: Engine, dek: [u8; 16], st: Stored, tag: u8, v: &[u8]) -> Stored
     ensures { λ r. ⌜ r ≡ stored dek st tag (now (v .entry)) ⌝ }
 {
     let seen = st.seen;
@@ -110,7 +111,7 @@ pub fn stored(dek: [u8; 16], st: Stored, tag: u8, v: &[u8]) -> Stored
     }
     let tags = marked(seen, tag);
     let old = st.head;
-    let head = datum_set(dek, tag, v, old);
+    let head = datum_set(engine, dek, tag, v, old);
     Stored {
         good: st.good,
         seen: tags,
@@ -132,7 +133,7 @@ fn end_of(n: usize, start: usize, size: u8) -> usize
 }
 
 // All TLVs, one after the other.
-pub fn stored_all(dek: [u8; 16], s: &[u8], head: Head) -> Stored
+pub fn stored_all(engine: Engine, dek: [u8; 16], s: &[u8], head: Head) -> Stored
     ensures { λ r. ⌜ r ≡ storedAll (length (now (s .entry))) dek (now (s .entry)) (unread head) ⌝ }
 {
     let n = s.len();
@@ -148,7 +149,7 @@ pub fn stored_all(dek: [u8; 16], s: &[u8], head: Head) -> Stored
         }
         let start = at + 2;
         let end = end_of(n, start, s[at + 1]);
-        st = stored(dek, st, s[at], &s[start..end]);
+        st = stored(engine, dek, st, s[at], &s[start..end]);
         at = end;
     }
     st
@@ -184,7 +185,7 @@ pub fn personalized(head: Head) -> Head
 }
 
 // The data that personalizes the card.
-pub fn store_data(head: Head, session: Session, body: &[u8]) -> Outcome
+pub fn store_data(engine: Engine, head: Head, session: Session, body: &[u8]) -> Outcome
     ensures { λ r. ⌜ r ≡ storeDataOf head session (now (body .entry)) ⌝ }
 {
     let channel = session.channel;
@@ -201,7 +202,7 @@ pub fn store_data(head: Head, session: Session, body: &[u8]) -> Outcome
     if w != 0x9000 {
         return refused(head, left, w);
     }
-    let st = stored_all(dek_of(level, head), body, head);
+    let st = stored_all(engine, dek_of(level, head), body, head);
     let seen = st.seen;
     let filled = st.head;
     if !both(st.good, complete(seen)) {

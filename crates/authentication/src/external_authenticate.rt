@@ -19,6 +19,7 @@ use session::Set;
 use session::closed;
 use session::ended;
 use session::opened;
+use tdes::Engine;
 
 // The security level that P1 asks for.
 fn level_for(p1: u8, set: Set) -> Level
@@ -61,6 +62,7 @@ fn ends_with(body: [u8; 16], mac: [u8; 8]) -> bool
 
 // After an INITIALIZE UPDATE under a set.
 fn authenticated(
+    engine: Engine,
     set: Set,
     head: Head,
     session: Session,
@@ -76,7 +78,7 @@ fn authenticated(
     if !starts_with(body, expected) {
         return refused(head, closed(session), 0x6300);
     }
-    let own = cmac(key, [0; 8], command, 13);
+    let own = cmac(engine, key, [0; 8], command, 13);
     if !ends_with(body, own) {
         return refused(head, closed(session), 0x6982);
     }
@@ -86,6 +88,7 @@ fn authenticated(
 
 // EXTERNAL AUTHENTICATE past step 5.
 pub fn external_authenticate(
+    engine: Engine,
     head: Head,
     session: Session,
     p1: u8,
@@ -96,7 +99,7 @@ pub fn external_authenticate(
 {
     let pending = session.pending;
     match pending {
-        Pending::Update(set) => authenticated(set, head, session, p1, command, body),
+        Pending::Update(set) => authenticated(engine, set, head, session, p1, command, body),
         Pending::Nothing => refused(head, ended(session), 0x6985),
         Pending::Debiting(_) => refused(head, ended(session), 0x6985),
         Pending::Crediting(_) => refused(head, ended(session), 0x6985),

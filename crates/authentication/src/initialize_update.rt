@@ -23,16 +23,17 @@ use session::Session;
 use session::ended;
 use session::offered;
 use session::set_of;
+use tdes::Engine;
 
 // The session keys, and the host cryptogram that is to come.
-fn offer(keys: Keys, host: [u8; 8], card: [u8; 8]) -> Offer
+fn offer(engine: Engine, keys: Keys, host: [u8; 8], card: [u8; 8]) -> Offer
     ensures { λ r. ⌜ r ≡ offer keys host card ⌝ }
 {
     let stored_enc = keys.enc;
     let stored_mac = keys.mac;
-    let enc = session_key(stored_enc, host, card);
-    let mac = session_key(stored_mac, host, card);
-    let expected = host_cryptogram(enc, host, card);
+    let enc = session_key(engine, stored_enc, host, card);
+    let mac = session_key(engine, stored_mac, host, card);
+    let expected = host_cryptogram(engine, enc, host, card);
     Offer {
         enc: enc,
         mac: mac,
@@ -41,11 +42,11 @@ fn offer(keys: Keys, host: [u8; 8], card: [u8; 8]) -> Offer
 }
 
 // Ten zeros, set, 01, card challenge, card cryptogram.
-fn update_answer(set: u8, enc: [u8; 16], host: [u8; 8], card: [u8; 8]) -> Buffer
+fn update_answer(engine: Engine, set: u8, enc: [u8; 16], host: [u8; 8], card: [u8; 8]) -> Buffer
     ensures { λ r. ⌜ (r ≡ holding (updateAnswer set enc host card)) × (length (updateAnswer set enc host card) ≤ 126) ⌝ }
 {
     let front = [0, 0, 0, 0, 0, 0, 0, 0, 0, 0, set, 0x01];
-    let cryptogram = card_cryptogram(enc, host, card);
+    let cryptogram = card_cryptogram(engine, enc, host, card);
     let a = append(empty(), &front);
     let b = append8(a, card);
     append8(b, cryptogram)
@@ -53,6 +54,7 @@ fn update_answer(set: u8, enc: [u8; 16], host: [u8; 8], card: [u8; 8]) -> Buffer
 
 // INITIALIZE UPDATE past step 5.
 pub fn initialize_update(
+    engine: Engine,
     head: Head,
     session: Session,
     p1: u8,
@@ -67,9 +69,9 @@ pub fn initialize_update(
         return refused(head, ended(session), 0x6A88);
     }
     let keys = known.keys;
-    let made = offer(keys, host, card);
+    let made = offer(engine, keys, host, card);
     let enc = made.enc;
-    let answer = update_answer(p1, enc, host, card);
+    let answer = update_answer(engine, p1, enc, host, card);
     let next = offered(set, made, session);
     done(Commits::Unchanged, head, next, answer)
 }

@@ -8,6 +8,7 @@ ghost use Rattle.bench.specs.InHand.{HandTurned, HandDrained, PieceRun};
 use framing::Next;
 use session::Session;
 use session::unselected;
+use tdes::Engine;
 
 // How many of the bytes in hand are used, whether more can be used at once, whether the file goes on, whether all lines were written, and
 // the session.
@@ -65,12 +66,19 @@ fn write(bytes: &[u8]) -> bool {
 }
 
 // One turn, whose lines are written together.
-fn turn(memory: &mut [u8], session: Session, input: &[u8], used: usize, output: &mut [u8]) -> Hand
+fn turn(
+    engine: Engine,
+    memory: &mut [u8],
+    session: Session,
+    input: &[u8],
+    used: usize,
+    output: &mut [u8],
+) -> Hand
     requires { ⌜ used ≤ length (now input) ⌝ }
     ensures { λ r. ⌜ HandTurned (now (memory .entry)) session (now (input .entry)) used (now (output .entry))
         r (now (memory .exit)) (now (output .exit)) ⌝ }
 {
-    let turned = bench_file::turn(memory, session, &input[used..], output);
+    let turned = bench_file::turn(engine, memory, session, &input[used..], output);
     let n = turned.written;
     let next = turned.next;
     let done = write(&output[0..n]);
@@ -86,7 +94,13 @@ fn turn(memory: &mut [u8], session: Session, input: &[u8], used: usize, output: 
 }
 
 // All whole frames in hand.
-fn run_in_hand(memory: &mut [u8], session: Session, input: &[u8], output: &mut [u8]) -> Hand
+fn run_in_hand(
+    engine: Engine,
+    memory: &mut [u8],
+    session: Session,
+    input: &[u8],
+    output: &mut [u8],
+) -> Hand
     requires { ⌜ (0 < length (now input)) × (longestLine ≤ length (now output)) ⌝ }
     ensures { λ r. ⌜ HandDrained (now (memory .entry)) session (now (input .entry)) (now (output .entry)) r (now (memory .exit)) ⌝ }
 {
@@ -98,7 +112,7 @@ fn run_in_hand(memory: &mut [u8], session: Session, input: &[u8], output: &mut [
         session: session,
     };
     while hand.again {
-        hand = turn(memory, hand.session, input, hand.used, output);
+        hand = turn(engine, memory, hand.session, input, hand.used, output);
     }
     hand
 }
@@ -120,6 +134,7 @@ fn finish(rest: &[u8], session: Session, output: &mut [u8]) -> Kept
 
 // Runs the first bytes of the input area, and keeps what is left of them.
 fn run_piece(
+    engine: Engine,
     memory: &mut [u8],
     session: Session,
     input: &mut [u8],
@@ -130,7 +145,7 @@ fn run_piece(
     ensures { λ r. ⌜ PieceRun (now (memory .entry)) session (now (input .entry)) have (now (output .entry))
         r (now (memory .exit)) (now (input .exit)) ⌝ }
 {
-    let hand = run_in_hand(memory, session, &input[0..have], output);
+    let hand = run_in_hand(engine, memory, session, &input[0..have], output);
     let left = framing::keep(input, hand.used, have);
     let after = hand.session;
     Kept {
@@ -143,6 +158,7 @@ fn run_piece(
 
 // Reads once, behind the bytes in hand.
 fn read_piece(
+    engine: Engine,
     fd: i32,
     name: &[u8],
     memory: &mut [u8],
@@ -169,11 +185,11 @@ fn read_piece(
     if n == 0 {
         return finish(&input[0..have], session, output);
     }
-    run_piece(memory, session, input, have + n, output)
+    run_piece(engine, memory, session, input, have + n, output)
 }
 
 // One bench file, with memory and session of its own. A proved loop has to end: it counts its turns down from a number that no run uses up.
-pub fn run(fd: i32, name: &[u8]) {
+pub fn run(engine: Engine, fd: i32, name: &[u8]) {
     let mut memory = [0; 4096];
     let mut input = io::large_buffer();
     let mut output = io::large_buffer();
@@ -185,7 +201,7 @@ pub fn run(fd: i32, name: &[u8]) {
     };
     let mut turns = u64::MAX;
     while 0 < turns && kept.on {
-        kept = read_piece(fd, name, &mut memory, &mut input, &mut output, kept);
+        kept = read_piece(engine, fd, name, &mut memory, &mut input, &mut output, kept);
         turns -= 1;
     }
 }

@@ -21,6 +21,7 @@ use octets::word_at;
 use purse::Called;
 use session::Session;
 use session::unselected;
+use tdes::Engine;
 
 // The response area, the least that a command takes.
 pub const AREA_SIZE: usize = 32;
@@ -113,6 +114,7 @@ fn start_frame(
 
 // Kind 03: limit, 8 random bytes, command. The response area is the bench's own.
 fn command_frame(
+    engine: Engine,
     memory: &mut [u8],
     session: Session,
     d: &[u8],
@@ -125,12 +127,21 @@ fn command_frame(
 {
     let limit = word_at(d, 0) as usize;
     let mut area = [0u8; AREA_SIZE];
-    let called = purse::command(memory, session, &d[10..], &d[2..10], &mut area, limit);
+    let called = purse::command(
+        engine,
+        memory,
+        session,
+        &d[10..],
+        &d[2..10],
+        &mut area,
+        limit,
+    );
     responded(session, called, &area, output, at)
 }
 
 // The frame that leads `s`.
 pub fn run_frame(
+    engine: Engine,
     memory: &mut [u8],
     session: Session,
     s: &[u8],
@@ -147,6 +158,6 @@ pub fn run_frame(
     match kind {
         0x01 => install_frame(memory, session, d, output, at),
         0x02 => start_frame(memory, session, d, output, at),
-        _ => command_frame(memory, session, d, output, at),
+        _ => command_frame(engine, memory, session, d, output, at),
     }
 }

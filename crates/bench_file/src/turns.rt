@@ -21,6 +21,7 @@ use framing::has_room;
 use framing::is_frame;
 use framing::is_malformed;
 use session::Session;
+use tdes::Engine;
 
 // The longest line: "C 0", a space, two digits a byte of the response area, a line feed.
 pub const LONGEST_LINE: usize = 69;
@@ -53,6 +54,7 @@ fn goes_on(input: &[u8], used: usize, room: usize, written: usize) -> bool
 
 // One frame more.
 fn step(
+    engine: Engine,
     memory: &mut [u8],
     session: Session,
     input: &[u8],
@@ -66,7 +68,7 @@ fn step(
 {
     let rest = &input[used..];
     let size = frame_size(rest);
-    let printed = run_frame(memory, session, rest, output, written);
+    let printed = run_frame(engine, memory, session, rest, output, written);
     let after = printed.session;
     Batched {
         used: used + size,
@@ -76,7 +78,13 @@ fn step(
 }
 
 // All whole frames that lead, as far as their lines have room.
-fn batch(memory: &mut [u8], session: Session, input: &[u8], output: &mut [u8]) -> Batched
+fn batch(
+    engine: Engine,
+    memory: &mut [u8],
+    session: Session,
+    input: &[u8],
+    output: &mut [u8],
+) -> Batched
     ensures { λ r. ⌜ BatchRuns (now (memory .entry)) session (now (input .entry)) (now (output .entry))
         r (now (memory .exit)) (now (output .exit)) ⌝ }
 {
@@ -86,17 +94,31 @@ fn batch(memory: &mut [u8], session: Session, input: &[u8], output: &mut [u8]) -
         session: session,
     };
     while goes_on(input, at.used, output.len(), at.written) {
-        at = step(memory, at.session, input, at.used, output, at.written);
+        at = step(
+            engine,
+            memory,
+            at.session,
+            input,
+            at.used,
+            output,
+            at.written,
+        );
     }
     at
 }
 
 // One turn on the bytes in hand.
-pub fn turn(memory: &mut [u8], session: Session, input: &[u8], output: &mut [u8]) -> Turned
+pub fn turn(
+    engine: Engine,
+    memory: &mut [u8],
+    session: Session,
+    input: &[u8],
+    output: &mut [u8],
+) -> Turned
     ensures { λ r. ⌜ TurnRuns (now (memory .entry)) session (now (input .entry)) (now (output .entry))
         r (now (memory .exit)) (now (output .exit)) ⌝ }
 {
-    let done = batch(memory, session, input, output);
+    let done = batch(engine, memory, session, input, output);
     let used = done.used;
     let written = done.written;
     let after = done.session;

@@ -5,6 +5,7 @@ ghost use Rattle.channel.specs.Channel.{cardCryptogram, hostCryptogram};
 use octets::append8;
 use octets::empty;
 use octets::part16;
+use tdes::Engine;
 use tdes::signature;
 
 // One challenge after the other.
@@ -18,17 +19,17 @@ fn both(first: [u8; 8], second: [u8; 8]) -> [u8; 16]
 }
 
 // What the card shows: the host's challenge first.
-pub fn card_cryptogram(enc: [u8; 16], host: [u8; 8], card: [u8; 8]) -> [u8; 8]
+pub fn card_cryptogram(engine: Engine, enc: [u8; 16], host: [u8; 8], card: [u8; 8]) -> [u8; 8]
     ensures { λ r. ⌜ r ≡ cardCryptogram enc host card ⌝ }
 {
     let text = both(host, card);
-    signature(enc, [0; 8], &text)
+    signature(engine, enc, [0; 8], &text)
 }
 
 // What the host shows: the card's challenge first.
-pub fn host_cryptogram(enc: [u8; 16], host: [u8; 8], card: [u8; 8]) -> [u8; 8]
+pub fn host_cryptogram(engine: Engine, enc: [u8; 16], host: [u8; 8], card: [u8; 8]) -> [u8; 8]
     ensures { λ r. ⌜ r ≡ hostCryptogram enc host card ⌝ }
 {
     let text = both(card, host);
-    signature(enc, [0; 8], &text)
+    signature(engine, enc, [0; 8], &text)
 }

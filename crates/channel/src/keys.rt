@@ -5,6 +5,7 @@ use octets::append4;
 use octets::empty;
 use octets::part4;
 use octets::part16;
+use tdes::Engine;
 use tdes::ecb;
 
 // What a stored key enciphers: halves of the two challenges.
@@ -20,10 +21,10 @@ pub fn derivation(host: [u8; 8], card: [u8; 8]) -> [u8; 16]
 }
 
 // The session key of a stored key and the two challenges.
-pub fn session_key(key: [u8; 16], host: [u8; 8], card: [u8; 8]) -> [u8; 16]
+pub fn session_key(engine: Engine, key: [u8; 16], host: [u8; 8], card: [u8; 8]) -> [u8; 16]
     ensures { λ r. ⌜ r ≡ sessionKey key host card ⌝ }
 {
     let mut text = derivation(host, card);
-    ecb(key, false, &mut text);
+    ecb(engine, key, false, &mut text);
     text
 }

@@ -8,19 +8,20 @@ ghost use Rattle.channel.specs.Channel.{cmacOf, rmacOf};
 use octets::Buffer;
 use octets::paste;
 use octets::size;
+use tdes::Engine;
 use tdes::signature;
 
 // A C-MAC, a buffer's bytes and a status word.
 const LONGEST: usize = 8 + 128 + 2;
 
 // The C-MAC over the first `n` bytes of a command, all where it has fewer.
-pub fn cmac(mac: [u8; 16], start: [u8; 8], command: &[u8], n: usize) -> [u8; 8]
+pub fn cmac(engine: Engine, mac: [u8; 16], start: [u8; 8], command: &[u8], n: usize) -> [u8; 8]
     ensures { λ r. ⌜ r ≡ cmacOf mac start (now (command .entry)) n ⌝ }
 {
     if command.len() < n {
-        return signature(mac, start, command);
+        return signature(engine, mac, start, command);
     }
-    signature(mac, start, &command[..n])
+    signature(engine, mac, start, &command[..n])
 }
 
 // The text of an R-MAC: the command's C-MAC, the answer's data, 90 00; zeros after it.
@@ -38,10 +39,10 @@ fn answer_text(cmac: [u8; 8], body: Buffer) -> [u8; LONGEST]
 }
 
 // The R-MAC of an answer's data.
-pub fn rmac(mac: [u8; 16], start: [u8; 8], cmac: [u8; 8], body: Buffer) -> [u8; 8]
+pub fn rmac(engine: Engine, mac: [u8; 16], start: [u8; 8], cmac: [u8; 8], body: Buffer) -> [u8; 8]
     ensures { λ r. ⌜ r ≡ rmacOf mac start cmac (content body) ⌝ }
 {
     let n = size(body);
     let text = answer_text(cmac, body);
-    signature(mac, start, &text[..10 + n])
+    signature(engine, mac, start, &text[..10 + n])
 }

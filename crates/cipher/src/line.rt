@@ -2,6 +2,7 @@
 ghost use Prim.Native.Nat.{_≤_};
 ghost use lib.ListN.{length};
 use crate::test;
+use tdes::Engine;
 
 // The index of the first space of `s` from `from` on, or `s`'s length.
 fn space(s: &[u8], from: usize) -> usize
@@ -22,7 +23,7 @@ fn malformed_fields() {
     io::write_all(1, b"malformed: fields\n");
 }
 
-fn answer_whole(s: &[u8]) {
+fn answer_whole(engine: Engine, s: &[u8]) {
     let n = s.len();
     let a = space(s, 0);
     if a == n {
@@ -42,14 +43,14 @@ fn answer_whole(s: &[u8]) {
     if space(s, text) != n {
         return malformed_fields();
     }
-    test::answer(&s[0..a], &s[key..b], &s[start..c], &s[text..])
+    test::answer(engine, &s[0..a], &s[key..b], &s[start..c], &s[text..])
 }
 
 // Answers the line of the first `used` bytes; a line that is longer than `line` is malformed.
-pub fn answer(line: &[u8], used: usize) {
+pub fn answer(engine: Engine, line: &[u8], used: usize) {
     if line.len() < used {
         io::write_all(1, b"malformed: line\n");
         return;
     }
-    answer_whole(&line[0..used])
+    answer_whole(engine, &line[0..used])
 }

@@ -1,17 +1,22 @@
 // Answers tests of the cipher: each line of standard input is a test, `KIND KEY START TEXT`, and gets a line of standard output,
-// the result in hexadecimal digits or what is malformed. README.md lists the kinds.
+// the result in hexadecimal digits or what is malformed. README.md lists the kinds. The quick engine ciphers, or with the argument
+// `--plain` the plain one.
+mod arguments;
 mod hex;
 mod line;
 mod test;
+
+use arguments::Asked;
+use tdes::Engine;
 
 // How many bytes are known of a line that is longer than the buffer.
 const TOO_LONG: usize = 4097;
 
 // Takes one byte more of the line that `used` bytes are known of, and answers how many are known now. A line feed has the line
 // answered. Of a line that `line` has no room for, one byte too many is counted and the rest passed over.
-fn push(byte: u8, line: &mut [u8], used: usize) -> usize {
+fn push(engine: Engine, byte: u8, line: &mut [u8], used: usize) -> usize {
     if byte == b'\n' {
-        line::answer(line, used);
+        line::answer(engine, line, used);
         return 0;
     }
     if used < line.len() {
@@ -22,11 +27,11 @@ fn push(byte: u8, line: &mut [u8], used: usize) -> usize {
 }
 
 // Takes bytes one after the other.
-fn push_all(bytes: &[u8], line: &mut [u8], used: usize) -> usize {
+fn push_all(engine: Engine, bytes: &[u8], line: &mut [u8], used: usize) -> usize {
     let mut now = used;
     let mut i = 0;
     while i < bytes.len() {
-        now = push(bytes[i], line, now);
+        now = push(engine, bytes[i], line, now);
         i += 1;
     }
     now
@@ -39,7 +44,7 @@ struct Begun {
 }
 
 // Reads standard input once.
-fn read_some(line: &mut [u8], used: usize) -> Begun {
+fn read_some(engine: Engine, line: &mut [u8], used: usize) -> Begun {
     let mut buffer = io::large_buffer();
     let n = io::count(libc::read(0, &mut buffer), &buffer);
     if n == 0 {
@@ -49,13 +54,13 @@ fn read_some(line: &mut [u8], used: usize) -> Begun {
         };
     }
     Begun {
-        used: push_all(&buffer[..n], line, used),
+        used: push_all(engine, &buffer[..n], line, used),
         last: false,
     }
 }
 
-// A proved loop has to end: it counts its turns down from a number that no run uses up.
-fn main() {
+// Answers the tests on standard input. A proved loop has to end: it counts its turns down from a number that no run uses up.
+fn answer_all(engine: Engine) {
     let mut line = io::buffer();
     let mut begun = Begun {
         used: 0,
@@ -63,10 +68,19 @@ fn main() {
     };
     let mut turns = u64::MAX;
     while 0 < turns && !begun.last {
-        begun = read_some(&mut line, begun.used);
+        begun = read_some(engine, &mut line, begun.used);
         turns -= 1;
     }
     if 0 < begun.used {
-        line::answer(&line, begun.used);
+        line::answer(engine, &line, begun.used);
+    }
+}
+
+fn main() {
+    match arguments::read() {
+        Asked::Quick => answer_all(Engine::Quick),
+        Asked::Plain => answer_all(Engine::Plain),
+        Asked::Help => arguments::help(),
+        Asked::Unknown => arguments::refuse(),
     }
 }

@@ -1,5 +1,6 @@
 // A test: what its kind asks of the cipher.
 use crate::hex;
+use tdes::Engine;
 
 // What two-key triple DES is asked for; `true` where it deciphers.
 enum Mode {
@@ -51,17 +52,16 @@ fn is_dash(field: &[u8]) -> bool {
 }
 
 // NIST SP 800-17's inner loop: each result is the next text.
-fn repeated(key: [u8; 8], decipher: bool, times: usize, block: [u8; 8]) -> [u8; 8] {
-    let keys = des::round_keys(key, decipher);
+fn repeated(engine: Engine, key: [u8; 8], decipher: bool, times: usize, block: [u8; 8]) -> [u8; 8] {
     let mut b = block;
     for _ in 0..times {
-        let next = des::block_under(keys, b);
+        let next = tdes::des_block(engine, key, decipher, b);
         b = next;
     }
     b
 }
 
-fn answer_des(decipher: bool, times: usize, key: &[u8], start: &[u8], text: &[u8]) {
+fn answer_des(engine: Engine, decipher: bool, times: usize, key: &[u8], start: &[u8], text: &[u8]) {
     let mut k = [0u8; 8];
     if hex::decode(key, &mut k) != 8 {
         io::write_all(1, b"malformed: key\n");
@@ -76,7 +76,7 @@ fn answer_des(decipher: bool, times: usize, key: &[u8], start: &[u8], text: &[u8
         io::write_all(1, b"malformed: text\n");
         return;
     }
-    hex::print(&repeated(k, decipher, times, b))
+    hex::print(&repeated(engine, k, decipher, times, b))
 }
 
 // ECB takes no start value: its field is a dash.
@@ -88,28 +88,28 @@ fn read_start(mode: Mode, field: &[u8], start: &mut [u8; 8]) -> bool {
     }
 }
 
-fn cbc(decipher: bool, key: [u8; 16], start: [u8; 8], text: &mut [u8]) {
+fn cbc(engine: Engine, decipher: bool, key: [u8; 16], start: [u8; 8], text: &mut [u8]) {
     if decipher {
-        return tdes::cbc_decipher(key, start, text);
+        return tdes::cbc_decipher(engine, key, start, text);
     }
-    tdes::cbc_encipher(key, start, text)
+    tdes::cbc_encipher(engine, key, start, text)
 }
 
-fn print_triple(mode: Mode, key: [u8; 16], start: [u8; 8], text: &mut [u8]) {
+fn print_triple(engine: Engine, mode: Mode, key: [u8; 16], start: [u8; 8], text: &mut [u8]) {
     match mode {
         Mode::Ecb(decipher) => {
-            tdes::ecb(key, decipher, text);
+            tdes::ecb(engine, key, decipher, text);
             hex::print(text)
         }
         Mode::Cbc(decipher) => {
-            cbc(decipher, key, start, text);
+            cbc(engine, decipher, key, start, text);
             hex::print(text)
         }
-        Mode::Signature => hex::print(&tdes::signature(key, start, text)),
+        Mode::Signature => hex::print(&tdes::signature(engine, key, start, text)),
     }
 }
 
-fn answer_text(mode: Mode, key: [u8; 16], start: [u8; 8], field: &[u8]) {
+fn answer_text(engine: Engine, mode: Mode, key: [u8; 16], start: [u8; 8], field: &[u8]) {
     let mut text = [0u8; 2048];
     let n = hex::decode(field, &mut text);
     if n == 0 {
@@ -118,10 +118,10 @@ fn answer_text(mode: Mode, key: [u8; 16], start: [u8; 8], field: &[u8]) {
             return;
         }
     }
-    print_triple(mode, key, start, &mut text[..n])
+    print_triple(engine, mode, key, start, &mut text[..n])
 }
 
-fn answer_triple(mode: Mode, key: &[u8], start: &[u8], text: &[u8]) {
+fn answer_triple(engine: Engine, mode: Mode, key: &[u8], start: &[u8], text: &[u8]) {
     let mut k = [0u8; 16];
     if hex::decode(key, &mut k) != 16 {
         io::write_all(1, b"malformed: key\n");
@@ -132,15 +132,15 @@ fn answer_triple(mode: Mode, key: &[u8], start: &[u8], text: &[u8]) {
         io::write_all(1, b"malformed: start\n");
         return;
     }
-    answer_text(mode, k, s, text)
+    answer_text(engine, mode, k, s, text)
 }
 
 // Writes the line that answers a test of these fields.
-pub fn answer(kind: &[u8], key: &[u8], start: &[u8], text: &[u8]) {
+pub fn answer(engine: Engine, kind: &[u8], key: &[u8], start: &[u8], text: &[u8]) {
     let k = kind_of(kind);
     match k {
-        Kind::Des(decipher, times) => answer_des(decipher, times, key, start, text),
-        Kind::Triple(mode) => answer_triple(mode, key, start, text),
+        Kind::Des(decipher, times) => answer_des(engine, decipher, times, key, start, text),
+        Kind::Triple(mode) => answer_triple(engine, mode, key, start, text),
         Kind::Unknown => {
             io::write_all(1, b"malformed: kind\n");
         }

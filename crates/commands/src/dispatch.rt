@@ -24,6 +24,7 @@ use objects::Request;
 use objects::refused;
 use session::Session;
 use session::ended;
+use tdes::Engine;
 
 // A command without a C-MAC.
 fn on_plain(p: Plain, head: Head, session: Session, request: Request, command: &[u8]) -> Outcome
@@ -71,6 +72,7 @@ fn on_command(head: Head, session: Session, request: Request, command: &[u8]) ->
 
 // A command on a card's head; `found` is the log record that the command would read.
 pub fn respond(
+    engine: Engine,
     head: Head,
     found: Record,
     session: Session,
@@ -82,6 +84,7 @@ pub fn respond(
     match parse(command) {
         Parsed::Command(header) => {
             let request = Request {
+                engine: engine,
                 header: header,
                 found: found,
                 random: random,

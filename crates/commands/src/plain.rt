@@ -39,21 +39,22 @@ pub fn plain(p: Plain, head: Head, session: Session, request: Request, command: 
     ensures { λ r. ⌜ r ≡ plainOf p head (request .found) session (request .header) (now (command .entry))
         (dataOf (now (command .entry)) (request .header .lc)) (request .random) ⌝ }
 {
+    let engine = request.engine;
     let header = request.header;
     match p {
         Plain::Select => select_data(head, session, command, header.lc),
         Plain::InitializeUpdate => {
             let host = part8(command, 5);
             let random = request.random;
-            initialize_update(head, session, header.p1, host, random)
+            initialize_update(engine, head, session, header.p1, host, random)
         }
         Plain::ExternalAuthenticate => {
             let body = part16(command, 5);
-            external_authenticate(head, session, header.p1, command, body)
+            external_authenticate(engine, head, session, header.p1, command, body)
         }
         Plain::VerifyPin => {
             let block = part8(command, 5);
-            verify_pin(head, session, block)
+            verify_pin(engine, head, session, block)
         }
         Plain::GetData => get_data(head, session, header.p2),
         Plain::ReadRecord => {

@@ -37,11 +37,12 @@ fn pin_data(head: Head, session: Session, request: Request, command: &[u8]) -> O
     requires { ⌜ (parsed (now command) ≡ Command (request .header)) × (signedLength PinChange (request .header .lc) ≡ true) ⌝ }
     ensures { λ r. ⌜ r ≡ pinChangeOf head session (dataOf (now (command .entry)) (request .header .lc - macSize)) ⌝ }
 {
+    let engine = request.engine;
     if request.header.lc == 8 {
         return unblock_pin(head, session);
     }
     let block = part8(command, 5);
-    change_pin(head, session, block)
+    change_pin(engine, head, session, block)
 }
 
 // Past step 6; `n` bytes of data come before the C-MAC.
@@ -57,23 +58,24 @@ fn signed(
         × (n ≡ request .header .lc - macSize) ⌝ }
     ensures { λ r. ⌜ r ≡ signedOf g head session (request .header) (dataOf (now (command .entry)) (request .header .lc - macSize)) ⌝ }
 {
+    let engine = request.engine;
     let header = request.header;
     match g {
         Signed::PutKey => {
             let keys = part48(command, 5);
-            put_key(head, session, header.p2, keys)
+            put_key(engine, head, session, header.p2, keys)
         }
         Signed::PinChange => pin_data(head, session, request, command),
-        Signed::StoreData => store_data(head, session, &command[5..5 + n]),
+        Signed::StoreData => store_data(engine, head, session, &command[5..5 + n]),
         Signed::InitializeTransaction => {
             let body = part4(command, 5);
-            initialize_transaction(head, session, header.p1, body)
+            initialize_transaction(engine, head, session, header.p1, body)
         }
         Signed::CompleteTransaction => {
             let context = part16(command, 5);
-            complete_transaction(head, session, context)
+            complete_transaction(engine, head, session, context)
         }
-        Signed::PutData => put_data(head, session, header.p2, &command[5..5 + n]),
+        Signed::PutData => put_data(engine, head, session, header.p2, &command[5..5 + n]),
     }
 }
 
@@ -88,6 +90,7 @@ pub fn authorized(
     requires { ⌜ (parsed (now command) ≡ Command (request .header)) × (signedLength g (request .header .lc) ≡ true) ⌝ }
     ensures { λ r. ⌜ r ≡ authorized g head session (request .header) (now (command .entry)) ⌝ }
 {
+    let engine = request.engine;
     let channel = session.channel;
     let level = channel.level;
     let key = channel.mac;
@@ -96,7 +99,7 @@ pub fn authorized(
         return refused(head, closed(session), 0x6982);
     }
     let n = (request.header.lc - MAC_SIZE) as usize;
-    let mac = cmac(key, start, command, 5 + n);
+    let mac = cmac(engine, key, start, command, 5 + n);
     let sent = part8(command, 5 + n);
     if !same(&sent, &mac) {
         return refused(head, closed(session), 0x6982);

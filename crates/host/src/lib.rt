@@ -9,6 +9,7 @@ use memory::MEMORY_SIZE;
 use purse::LEAST_AREA;
 use result::result;
 use session::unpack;
+use tdes::Engine;
 
 // The session area's size.
 pub const SESSION_SIZE: usize = 128;
@@ -78,6 +79,14 @@ pub extern "C" fn purse_command(
         return 8;
     }
     let current = read.session;
-    let called = purse::command(memory, current, command, random, response, limit);
+    let called = purse::command(
+        Engine::Quick,
+        memory,
+        current,
+        command,
+        random,
+        response,
+        limit,
+    );
     result(session, called)
 }

@@ -25,9 +25,10 @@ use octets::empty;
 use octets::part4;
 use octets::part16;
 use octets::word_at;
+use tdes::Engine;
 
 // Bank information as it was before it was sent; undefined where there is none.
-pub fn bank_of(dek: [u8; 16], v: &[u8]) -> Bank
+pub fn bank_of(engine: Engine, dek: [u8; 16], v: &[u8]) -> Bank
     ensures { λ r. ⌜ r ≡ bankOf dek (now (v .entry)) ⌝ }
 {
     if v.len() == 0 {
@@ -36,7 +37,7 @@ pub fn bank_of(dek: [u8; 16], v: &[u8]) -> Bank
             value: [0; 16],
         };
     }
-    let value = bank_received(dek, part16(v, 0));
+    let value = bank_received(engine, dek, part16(v, 0));
     Bank {
         defined: true,
         value: value,
@@ -65,7 +66,7 @@ pub fn agent_of(v: &[u8]) -> Aid
 }
 
 // The parameters with the value of a tag of 01 to 04, 06 or 07.
-pub fn parameter_set(dek: [u8; 16], tag: u8, v: &[u8], p: Parameters) -> Parameters
+pub fn parameter_set(engine: Engine, dek: [u8; 16], tag: u8, v: &[u8], p: Parameters) -> Parameters
     ensures { λ r. ⌜ r ≡ parameterSet dek tag (now (v .entry)) p ⌝ }
 {
     let mut q = p;
@@ -88,7 +89,7 @@ pub fn parameter_set(dek: [u8; 16], tag: u8, v: &[u8], p: Parameters) -> Paramet
             q
         }
         0x06 => {
-            let bank = bank_of(dek, v);
+            let bank = bank_of(engine, dek, v);
             q.bank = bank;
             q
         }
@@ -102,7 +103,7 @@ pub fn parameter_set(dek: [u8; 16], tag: u8, v: &[u8], p: Parameters) -> Paramet
 }
 
 // The head with the value of a tag of 01 to 07.
-pub fn datum_set(dek: [u8; 16], tag: u8, v: &[u8], head: Head) -> Head
+pub fn datum_set(engine: Engine, dek: [u8; 16], tag: u8, v: &[u8], head: Head) -> Head
     ensures { λ r. ⌜ r ≡ datumSet dek tag (now (v .entry)) head ⌝ }
 {
     if tag == 0x05 {
@@ -110,7 +111,7 @@ pub fn datum_set(dek: [u8; 16], tag: u8, v: &[u8], head: Head) -> Head
     }
     let purse = head.purse;
     let p = purse.parameters;
-    with_parameters(parameter_set(dek, tag, v, p), head)
+    with_parameters(parameter_set(engine, dek, tag, v, p), head)
 }
 
 // A number's two bytes.

@@ -17,6 +17,7 @@ use memory::record_at;
 use octets::byte_at;
 use octets::part8;
 use session::Session;
+use tdes::Engine;
 
 // The response area's least size, which every response fits.
 pub const LEAST_AREA: usize = 32;
@@ -34,6 +35,7 @@ fn asked_record(memory: &[u8], bytes: &[u8]) -> Record
 
 // On readable memory, whose head is at hand.
 fn run(
+    engine: Engine,
     memory: &mut [u8],
     head: Head,
     session: Session,
@@ -48,12 +50,13 @@ fn run(
 {
     let asked = asked_record(memory, bytes);
     let drawn = part8(random, 0);
-    let outcome = respond(head, asked, session, bytes, drawn);
+    let outcome = respond(engine, head, asked, session, bytes, drawn);
     perform(memory, outcome, area, limit)
 }
 
 // Answers 0 to 4 and 7. The response leads the area after 0.
 pub fn command(
+    engine: Engine,
     memory: &mut [u8],
     session: Session,
     bytes: &[u8],
@@ -78,5 +81,5 @@ pub fn command(
         return storeless(2, session);
     }
     let head = reading.head;
-    run(memory, head, session, bytes, random, area, limit)
+    run(engine, memory, head, session, bytes, random, area, limit)
 }

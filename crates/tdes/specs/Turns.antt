@@ -1,7 +1,9 @@
 -- A turn of the walk over the blocks of a text: what a block becomes after a value, under outer and inner round keys. Assumes nothing.
 use Prim.Native.Nat.{ℕ}
+use mathlib.Core.Bool.{Bool}
 use mathlib.Core.List.{List}
-use Rattle.des_spec.specs.Des.{blockUnder}
+use Rattle.des_spec.specs.Des.{encipher, decipher, blockUnder}
+use Rattle.des_spec.specs.Modes.{ecbText, cbcText}
 use Rattle.des_spec.specs.Walk.{Mode, ecbBy, cbcEncipherBy, cbcDecipherBy}
 use Rattle.tdes.specs.declared.modes.Way.{Way}
 use Rattle.tdes.specs.declared.modes.Way.the-variants.{Ecb, CbcEncipher, CbcDecipher}
@@ -24,3 +26,9 @@ turned way outer inner value block =
       put = mode way (tripleUnder outer inner) .put value block;
       next = mode way (tripleUnder outer inner) .next value block;
     }
+
+-- a text in a mode; the direction is for ECB
+unfoldable pub modeText : Way → Bool → List ℕ → List ℕ → List ℕ → List ℕ
+modeText Ecb direction key start text = ecbText direction key text
+modeText CbcEncipher direction key start text = cbcText encipher key start text
+modeText CbcDecipher direction key start text = cbcText decipher key start text

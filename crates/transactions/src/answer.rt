@@ -9,15 +9,16 @@ use channel::rmac;
 use octets::Buffer;
 use octets::append8;
 use session::Channel;
+use tdes::Engine;
 
 // The R-MAC of an answer's data.
-pub fn answer_mac(channel: Channel, answer: Buffer) -> [u8; 8]
+pub fn answer_mac(engine: Engine, channel: Channel, answer: Buffer) -> [u8; 8]
     ensures { λ r. ⌜ ((x : List ℕ) → answer ≡ holding x → r ≡ rmacOf (channel .mac) (channel .rmac) (channel .cmac) x) ⌝ }
 {
     let key = channel.mac;
     let start = channel.rmac;
     let cmac = channel.cmac;
-    rmac(key, start, cmac, answer)
+    rmac(engine, key, start, cmac, answer)
 }
 
 // An answer of at most 118 bytes, and its R-MAC.

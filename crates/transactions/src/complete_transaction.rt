@@ -31,6 +31,7 @@ use session::amount_of;
 use session::answered;
 use session::ended;
 use session::has_rmac;
+use tdes::Engine;
 
 // Whether a transaction's amount is noted.
 fn is_noted(pending: Pending) -> bool
@@ -120,7 +121,12 @@ fn complete_answer(head: Head) -> Buffer
 }
 
 // The amount that was noted is moved.
-pub fn complete_transaction(head: Head, session: Session, context: [u8; 16]) -> Outcome
+pub fn complete_transaction(
+    engine: Engine,
+    head: Head,
+    session: Session,
+    context: [u8; 16],
+) -> Outcome
     ensures { λ r. ⌜ r ≡ completeTransactionOf head session context ⌝ }
 {
     let w = complete_status(head, session);
@@ -134,7 +140,7 @@ pub fn complete_transaction(head: Head, session: Session, context: [u8; 16]) -> 
     let logged = log_record(debit, amount, next, context);
     let answer = complete_answer(next);
     let channel = session.channel;
-    let mac = answer_mac(channel, answer);
+    let mac = answer_mac(engine, channel, answer);
     let left = answered(Pending::Nothing, mac, session);
     let mut o = done(Commits::HotAndRecord, next, left, with_mac(answer, mac));
     o.logged = logged;

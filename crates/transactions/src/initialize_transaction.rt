@@ -30,6 +30,7 @@ use session::access::access;
 use session::answered;
 use session::ended;
 use session::has_rmac;
+use tdes::Engine;
 
 // A bank credit wants bank information and a PIN.
 pub fn lacks(p1: u8, bank: bool, pin: bool) -> bool
@@ -133,7 +134,7 @@ pub fn initialize_status(head: Head, session: Session, p1: u8, currency: u16, am
 }
 
 // Identifier, and bank information where P1 is 02; an R-MAC fits after it.
-fn initialize_answer(head: Head, session: Session, p1: u8) -> Buffer
+fn initialize_answer(engine: Engine, head: Head, session: Session, p1: u8) -> Buffer
     ensures { λ r. ⌜ (r ≡ holding (initializeAnswer head session p1)) × (length (initializeAnswer head session p1) ≤ 118) ⌝ }
 {
     let p = head.purse.parameters;
@@ -145,7 +146,7 @@ fn initialize_answer(head: Head, session: Session, p1: u8) -> Buffer
     let bank = p.bank.value;
     let channel = session.channel;
     let level = channel.level;
-    append16(answer, bank_sent(dek_of(level, head), bank))
+    append16(answer, bank_sent(engine, dek_of(level, head), bank))
 }
 
 // The amount is noted, a debit's or a credit's.
@@ -159,7 +160,13 @@ fn noted(p1: u8, amount: u16) -> Pending
 }
 
 // Where the amount may be moved it is noted, and the answer carries an R-MAC.
-pub fn initialize_transaction(head: Head, session: Session, p1: u8, body: [u8; 4]) -> Outcome
+pub fn initialize_transaction(
+    engine: Engine,
+    head: Head,
+    session: Session,
+    p1: u8,
+    body: [u8; 4],
+) -> Outcome
     ensures { λ r. ⌜ r ≡ initializeTransactionOf head session p1 body ⌝ }
 {
     let currency = word_at(&body, 0);
@@ -168,9 +175,9 @@ pub fn initialize_transaction(head: Head, session: Session, p1: u8, body: [u8; 4
     if w != 0x9000 {
         return refused(head, ended(session), w);
     }
-    let answer = initialize_answer(head, session, p1);
+    let answer = initialize_answer(engine, head, session, p1);
     let channel = session.channel;
-    let mac = answer_mac(channel, answer);
+    let mac = answer_mac(engine, channel, answer);
     let next = answered(noted(p1, amount), mac, session);
     done(Commits::Unchanged, head, next, with_mac(answer, mac))
 }

@@ -22,6 +22,7 @@ use session::Session;
 use session::access::access;
 use session::ended;
 use session::flagged;
+use tdes::Engine;
 
 // VERIFY PIN, before the PIN is judged.
 pub fn verify_status(personalized: bool, defined: bool, held: u8, tries: u8) -> u16
@@ -56,10 +57,10 @@ fn tried(state: State) -> State
 }
 
 // Whether what was sent under the session key is the card's PIN.
-fn is_right(key: [u8; 16], body: [u8; 8], block: [u8; 8]) -> bool
+fn is_right(engine: Engine, key: [u8; 16], body: [u8; 8], block: [u8; 8]) -> bool
     ensures { λ r. ⌜ r ≡ same (received key body) block ⌝ }
 {
-    let sent = received8(key, body);
+    let sent = received8(engine, key, body);
     same(&sent, &block)
 }
 
@@ -87,7 +88,7 @@ fn judged(right: bool, head: Head, session: Session) -> Outcome
 }
 
 // The PIN that was sent is judged where the card has one and a try is left.
-pub fn verify_pin(head: Head, session: Session, body: [u8; 8]) -> Outcome
+pub fn verify_pin(engine: Engine, head: Head, session: Session, body: [u8; 8]) -> Outcome
     ensures { λ r. ⌜ r ≡ verifyPinOf head session body ⌝ }
 {
     let pin = head.pin;
@@ -100,5 +101,5 @@ pub fn verify_pin(head: Head, session: Session, body: [u8; 8]) -> Outcome
     if w != 0x9000 {
         return refused(head, ended(session), w);
     }
-    judged(is_right(key, body, block), head, session)
+    judged(is_right(engine, key, body, block), head, session)
 }

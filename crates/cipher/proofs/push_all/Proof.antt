@@ -7,10 +7,10 @@ use Rattle.cipher.proofs.push_all.Statement.{statement}
 use Rattle.cipher.proofs.push_all.Tie as tie
 
 abbrev Inv-loop : tie.InvT-loop
-Inv-loop bytes line₀ used now₀ i₀ line now i = (length line ≡ length line₀) × (i ≤ length bytes)
+Inv-loop engine bytes line₀ used now₀ i₀ line now i = (length line ≡ length line₀) × (i ≤ length bytes)
 
 abbrev μ-loop : tie.MeasureT-loop
-μ-loop bytes line₀ used now₀ i₀ line now i = length bytes - i
+μ-loop engine bytes line₀ used now₀ i₀ line now i = length bytes - i
 
 loop-holds : tie.Need-loop-holds Inv-loop μ-loop
 loop-holds c = search needs

@@ -10,10 +10,10 @@ use Rattle.administration.proofs.store_data.stored_all.Tie as tie
 
 -- what the whole data comes to, k turns from `at` on come to
 abbrev Inv-loop : tie.InvT-loop
-Inv-loop dek s n st₀ at₀ st at = (at ≤ length s) × (n ≡ length s) × ((k : ℕ) × (length s ≤ at + k) × (storedAll (length s) dek s st₀ ≡ storedAll k dek (drop at s) st))
+Inv-loop engine dek s n st₀ at₀ st at = (at ≤ length s) × (n ≡ length s) × ((k : ℕ) × (length s ≤ at + k) × (storedAll (length s) dek s st₀ ≡ storedAll k dek (drop at s) st))
 
 abbrev μ-loop : tie.MeasureT-loop
-μ-loop dek s n st₀ at₀ st at = length s - at
+μ-loop engine dek s n st₀ at₀ st at = length s - at
 
 loop-holds : tie.Need-loop-holds Inv-loop μ-loop
 loop-holds c = let s = c .before .args .s .now in (omega arith, refl, (length s, omega arith, refl))

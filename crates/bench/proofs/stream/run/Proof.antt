@@ -7,11 +7,11 @@ use Rattle.bench.proofs.stream.run.Statement.{statement}
 use Rattle.bench.proofs.stream.run.Tie as tie
 
 abbrev Inv-loop : tie.InvT-loop
-Inv-loop fd name memory₀ input₀ output₀ kept₀ turns₀ memory input output kept turns =
+Inv-loop engine fd name memory₀ input₀ output₀ kept₀ turns₀ memory input output kept turns =
     (length memory ≡ 4096) × (length input ≡ 65536) × (length output ≡ 65536) × (kept .have ≤ length input)
 
 abbrev μ-loop : tie.MeasureT-loop
-μ-loop fd name memory₀ input₀ output₀ kept₀ turns₀ memory input output kept turns = turns
+μ-loop engine fd name memory₀ input₀ output₀ kept₀ turns₀ memory input output kept turns = turns
 
 large-buffer-requires : tie.Need-large-buffer-requires Inv-loop μ-loop
 large-buffer-requires c κs = search needs

@@ -9,11 +9,11 @@ use Rattle.bench.proofs.stream.run_in_hand.Statement.{statement}
 use Rattle.bench.proofs.stream.run_in_hand.Tie as tie
 
 abbrev Inv-loop : tie.InvT-loop
-Inv-loop memory₀ input output₀ hand₀ memory output hand =
+Inv-loop engine memory₀ input output₀ hand₀ memory output hand =
     (length memory ≡ length memory₀) × (length output ≡ length output₀) × Drains memory₀ (hand₀ .session) input (length output₀) memory hand
 
 abbrev μ-loop : tie.MeasureT-loop
-μ-loop memory₀ input output₀ hand₀ memory output hand = pick (hand .again) (suc (length input - hand .used)) 0
+μ-loop engine memory₀ input output₀ hand₀ memory output hand = pick (hand .again) (suc (length input - hand .used)) 0
 
 loop-holds : tie.Need-loop-holds Inv-loop μ-loop
 loop-holds c = (refl, refl, hand-start _ _ _ _ (c .before .before .before .pre .0))

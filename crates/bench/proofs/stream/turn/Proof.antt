@@ -30,10 +30,10 @@ part-write-end c = turn-within _ _ _ _ _ _ _ (c .before .before .before .before 
 write-requires : tie.Need-write-requires
 write-requires c κs = search needs
 
-add-t15 : tie.Need-add-t15
-add-t15 c =
+add-t16 : tie.Need-add-t16
+add-t16 c =
     let s = c .before .before .before .before .before .before .before .before .before .before .before .before .before .before .before in
-    omega (arith, s .good .1 .1 .0 .0, used-within (s .args .input .now) (s .args .used) (c .before .before .before .before .before .before .before .before .turn .result .used) (s .pre) (turn-within _ _ _ _ _ _ _ (c .before .before .before .before .before .before .before .before .turn .ensures) .0))
+    omega (arith, s .good .1 .1 .1 .0 .0, used-within (s .args .input .now) (s .args .used) (c .before .before .before .before .before .before .before .before .turn .result .used) (s .pre) (turn-within _ _ _ _ _ _ _ (c .before .before .before .before .before .before .before .before .turn .ensures) .0))
 
 again-requires : tie.Need-again-requires
 again-requires c κs = search needs
@@ -56,4 +56,4 @@ pub turn-spec : {M : Type 1} → statement M
 turn-spec =
     tie.close
     (tie.spec sub-turn part-turn-start part-turn-end turn-requires sub-write part-write-start part-write-end
-    write-requires add-t15 again-requires goes-on-requires same-length same-length-2 returns)
+    write-requires add-t16 again-requires goes-on-requires same-length same-length-2 returns)

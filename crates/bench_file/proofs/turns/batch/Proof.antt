@@ -12,11 +12,11 @@ use Rattle.bench_file.proofs.turns.batch.Statement.{statement}
 use Rattle.bench_file.proofs.turns.batch.Tie as tie
 
 abbrev Inv-loop : tie.InvT-loop
-Inv-loop memory₀ input output₀ at₀ memory output at =
+Inv-loop engine memory₀ input output₀ at₀ memory output at =
     (length memory ≡ length memory₀) × (length output ≡ length output₀) × Going bench fitting (benchOf memory₀ (at₀ .session)) input output₀ output (at .used) (at .written) (benchOf memory (at .session))
 
 abbrev μ-loop : tie.MeasureT-loop
-μ-loop memory₀ input output₀ at₀ memory output at = length input - at .used
+μ-loop engine memory₀ input output₀ at₀ memory output at = length input - at .used
 
 loop-holds : tie.Need-loop-holds Inv-loop μ-loop
 loop-holds c = (refl, refl, going-start bench fitting _ _ _ tt)

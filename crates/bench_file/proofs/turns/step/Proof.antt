@@ -27,13 +27,13 @@ run-frame-requires c κs =
     let s = c .before .before .before .before .before .before .before in
     (rw (lent-end (s .args .input .now) (s .args .used)) (s .pre .0), s .pre .1)
 
-add-t12 : tie.Need-add-t12
-add-t12 c =
+add-t13 : tie.Need-add-t13
+add-t13 c =
     let s = c .before .before .before .before .before .before .before .before .before .before .before .before .before in
     omega (arith, size-within sizeOk (s .args .input .now) (s .args .used) (s .pre .0), rw lent-end at (c .before .before .before .before .before .before .before .before .frame-size .ensures))
 
-add-t18 : tie.Need-add-t18
-add-t18 c =
+add-t19 : tie.Need-add-t19
+add-t19 c =
     let s = c .before .before .before .before .before .before .before .before .before .before .before .before .before .before in
     let a = s .args in
     omega (arith, s .pre .1, text-fits bench (benchOf (a .memory .now) (a .session)) (a .input .now) _ (a .used) (lent-end (a .input .now) (a .used)) fitting 0 tt _ (c .before .before .before .before .before .before .run-frame .ensures .puts .0))
@@ -53,5 +53,5 @@ returns c =
 pub step-spec : {M : Type 1} → statement M
 step-spec =
     tie.close
-    (tie.spec sub-rest part-rest-start part-rest-end frame-size-requires run-frame-requires add-t12 add-t18
+    (tie.spec sub-rest part-rest-start part-rest-end frame-size-requires run-frame-requires add-t13 add-t19
     same-length same-length-2 returns)

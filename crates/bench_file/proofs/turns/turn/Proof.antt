@@ -43,9 +43,9 @@ is-malformed-requires c κs = search needs
 malformed-line-requires : tie.Need-malformed-line-requires
 malformed-line-requires c κs = search needs
 
-add-t25 : tie.Need-add-t25
-add-t25 c =
-    let h = refused-by (benchOf (c .before .before .before .before .before .before .before .before .before .before .before .before .before .before .batch .last .0) (c .before .before .before .before .before .before .before .before .before .before .before .before .before .before .batch .result .session)) (c .before .before .before .before .before .before .before .before .before .before .before .before .before .before .before .before .before .before .before .before .args .input .now) _ (c .before .before .before .before .before .before .before .before .before .before .before .before .before .before .batch .result .used) (lent-end (c .before .before .before .before .before .before .before .before .before .before .before .before .before .before .before .before .before .before .before .before .args .input .now) (c .before .before .before .before .before .before .before .before .before .before .before .before .before .before .batch .result .used)) _ (c .before .before .before .before .before .before .front-of .ensures) _ (c .before .before .before .before .before .is-malformed .ensures) in
+add-t26 : tie.Need-add-t26
+add-t26 c =
+    let h = refused-by (benchOf (c .before .before .before .before .before .before .before .before .before .before .before .before .before .before .batch .last .1 .0) (c .before .before .before .before .before .before .before .before .before .before .before .before .before .before .batch .result .session)) (c .before .before .before .before .before .before .before .before .before .before .before .before .before .before .before .before .before .before .before .before .args .input .now) _ (c .before .before .before .before .before .before .before .before .before .before .before .before .before .before .batch .result .used) (lent-end (c .before .before .before .before .before .before .before .before .before .before .before .before .before .before .before .before .before .before .before .before .args .input .now) (c .before .before .before .before .before .before .before .before .before .before .before .before .before .before .batch .result .used)) _ (c .before .before .before .before .before .before .front-of .ensures) _ (c .before .before .before .before .before .is-malformed .ensures) in
     let o = over-written bench fitting _ _ _ tt _ _ _ _ (c .before .before .before .before .before .before .before .before .before .before .before .before .before .before .batch .ensures) (c .before .before .before .before .before .before .before .before .if1 .left) _ h (c .before .before .malformed-line .result) _ (c .before .before .malformed-line .ensures) in
     omega arith
 
@@ -57,7 +57,7 @@ same-length-4 c = search needs
 
 returns-2 : tie.Need-returns-2
 returns-2 c =
-    let h = refused-by (benchOf (c .before .before .before .before .before .before .before .before .before .before .before .before .before .before .batch .last .0) (c .before .before .before .before .before .before .before .before .before .before .before .before .before .before .batch .result .session)) (c .before .before .before .before .before .before .before .before .before .before .before .before .before .before .before .before .before .before .before .before .args .input .now) _ (c .before .before .before .before .before .before .before .before .before .before .before .before .before .before .batch .result .used) (lent-end (c .before .before .before .before .before .before .before .before .before .before .before .before .before .before .before .before .before .before .before .before .args .input .now) (c .before .before .before .before .before .before .before .before .before .before .before .before .before .before .batch .result .used)) _ (c .before .before .before .before .before .before .front-of .ensures) _ (c .before .before .before .before .before .is-malformed .ensures) in
+    let h = refused-by (benchOf (c .before .before .before .before .before .before .before .before .before .before .before .before .before .before .batch .last .1 .0) (c .before .before .before .before .before .before .before .before .before .before .before .before .before .before .batch .result .session)) (c .before .before .before .before .before .before .before .before .before .before .before .before .before .before .before .before .before .before .before .before .args .input .now) _ (c .before .before .before .before .before .before .before .before .before .before .before .before .before .before .batch .result .used) (lent-end (c .before .before .before .before .before .before .before .before .before .before .before .before .before .before .before .before .before .before .before .before .args .input .now) (c .before .before .before .before .before .before .before .before .before .before .before .before .before .before .batch .result .used)) _ (c .before .before .before .before .before .before .front-of .ensures) _ (c .before .before .before .before .before .is-malformed .ensures) in
     turn-over bench fitting _ _ _ tt _ _ _ _ (c .before .before .before .before .before .before .before .before .before .before .before .before .before .before .batch .ensures) (c .before .before .before .before .before .before .before .before .if1 .left) _ h _ _ (c .before .before .malformed-line .ensures) (c .before .before .before .before .if2 .taken)
 
 same-length-5 : tie.Need-same-length-5
@@ -68,12 +68,12 @@ same-length-6 c = search needs
 
 returns-3 : tie.Need-returns-3
 returns-3 c =
-    let h = refused-by (benchOf (c .before .before .before .before .before .before .before .before .before .before .batch .last .0) (c .before .before .before .before .before .before .before .before .before .before .batch .result .session)) (c .before .before .before .before .before .before .before .before .before .before .before .before .before .before .before .before .args .input .now) _ (c .before .before .before .before .before .before .before .before .before .before .batch .result .used) (lent-end (c .before .before .before .before .before .before .before .before .before .before .before .before .before .before .before .before .args .input .now) (c .before .before .before .before .before .before .before .before .before .before .batch .result .used)) _ (c .before .before .front-of .ensures) _ (c .before .is-malformed .ensures) in
+    let h = refused-by (benchOf (c .before .before .before .before .before .before .before .before .before .before .batch .last .1 .0) (c .before .before .before .before .before .before .before .before .before .before .batch .result .session)) (c .before .before .before .before .before .before .before .before .before .before .before .before .before .before .before .before .args .input .now) _ (c .before .before .before .before .before .before .before .before .before .before .batch .result .used) (lent-end (c .before .before .before .before .before .before .before .before .before .before .before .before .before .before .before .before .args .input .now) (c .before .before .before .before .before .before .before .before .before .before .batch .result .used)) _ (c .before .before .front-of .ensures) _ (c .before .is-malformed .ensures) in
     turn-more bench fitting _ _ _ tt _ _ _ _ (c .before .before .before .before .before .before .before .before .before .before .batch .ensures) (c .before .before .before .before .if1 .left) _ h (c .if2 .left)
 
 pub turn-spec : {M : Type 1} → statement M
 turn-spec =
     tie.close
     (tie.spec batch-requires sub-if1 same-length same-length-2 returns sub-front-of part-front-of-start
-    part-front-of-end front-of-requires is-malformed-requires malformed-line-requires add-t25 same-length-3
+    part-front-of-end front-of-requires is-malformed-requires malformed-line-requires add-t26 same-length-3
     same-length-4 returns-2 same-length-5 same-length-6 returns-3)

@@ -5,19 +5,16 @@ use Rattle.cipher.proofs.test.repeated.Statement.{statement}
 use Rattle.cipher.proofs.test.repeated.Tie as tie
 
 abbrev Inv-loop : tie.InvT-loop
-Inv-loop decipher times keys b₀ counter₀ b counter = Unit {0}
+Inv-loop engine key decipher times b₀ counter₀ b counter = Unit {0}
 
 abbrev μ-loop : tie.MeasureT-loop
-μ-loop decipher times keys b₀ counter₀ b counter = times - counter
-
-round-keys-requires : tie.Need-round-keys-requires Inv-loop μ-loop
-round-keys-requires c κs = search needs
+μ-loop engine key decipher times b₀ counter₀ b counter = times - counter
 
 loop-holds : tie.Need-loop-holds Inv-loop μ-loop
 loop-holds c = search needs
 
-block-under-requires : tie.Need-block-under-requires Inv-loop μ-loop
-block-under-requires c κs = search needs
+des-block-requires : tie.Need-des-block-requires Inv-loop μ-loop
+des-block-requires c κs = search needs
 
 add-counter : tie.Need-add-counter Inv-loop μ-loop
 add-counter c = search needs
@@ -34,5 +31,4 @@ returns c = search needs
 pub repeated-spec : {M : Type 1} → statement M
 repeated-spec =
     tie.close
-    (tie.spec Inv-loop μ-loop round-keys-requires loop-holds block-under-requires add-counter loop-less loop-again
-    returns)
+    (tie.spec Inv-loop μ-loop loop-holds des-block-requires add-counter loop-less loop-again returns)

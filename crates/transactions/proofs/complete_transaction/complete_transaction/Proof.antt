@@ -19,10 +19,10 @@ number-fits : (s : tie.Start) → s .args .head .shared .maxnumber < 65536
 number-fits s = omega arith
 
 balance-fits : (s : tie.Start) → s .args .head .purse .balance < 65536
-balance-fits s = omega (arith, s .good .0 .1 .1 .1 .1 .0 .1 .1 .1 .1 .1 .1 .0)
+balance-fits s = omega (arith, s .good .1 .0 .1 .1 .1 .1 .0 .1 .1 .1 .1 .1 .1 .0)
 
 maximum-fits : (s : tie.Start) → s .args .head .purse .parameters .maxbalance < 65536
-maximum-fits s = omega (arith, s .good .0 .1 .1 .1 .1 .0 .1 .1 .1 .0)
+maximum-fits s = omega (arith, s .good .1 .0 .1 .1 .1 .1 .0 .1 .1 .1 .0)
 
 complete-status-requires : tie.Need-complete-status-requires
 complete-status-requires c κs = search needs

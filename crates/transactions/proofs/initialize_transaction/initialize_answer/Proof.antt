@@ -13,7 +13,7 @@ use Rattle.transactions.proofs.initialize_transaction.initialize_answer
 use Rattle.transactions.proofs.initialize_transaction.initialize_answer.Tie as tie
 
 identifier-size : (s : tie.Start) → length (s .args .head .purse .parameters .identifier) ≡ 4
-identifier-size s = search (needs, s .good .0 .1 .1 .1 .1 .0 .1 .1 .1 .0)
+identifier-size s = search (needs, s .good .1 .0 .1 .1 .1 .1 .0 .1 .1 .1 .0)
 
 empty-requires : tie.Need-empty-requires
 empty-requires c κs = search needs

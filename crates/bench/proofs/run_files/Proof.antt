@@ -1,0 +1,37 @@
+-- `run_files`: one turn of the loop a file that is named. Assumes nothing.
+use Prim.Native.Nat.{_-_}
+use borrow.Author.Needs.{needs}
+use Rattle.bench.proofs.run_files.Statement.{statement}
+use Rattle.bench.proofs.run_files.Tie as tie
+
+abbrev Inv-loop : tie.InvT-loop
+Inv-loop engine first n i₀ i = Unit {0}
+
+abbrev μ-loop : tie.MeasureT-loop
+μ-loop engine first n i₀ i = n - i
+
+arg-count-requires : tie.Need-arg-count-requires Inv-loop μ-loop
+arg-count-requires c κs = search needs
+
+loop-holds : tie.Need-loop-holds Inv-loop μ-loop
+loop-holds c = search needs
+
+run-named-requires : tie.Need-run-named-requires Inv-loop μ-loop
+run-named-requires c κs = search needs
+
+add-i : tie.Need-add-i Inv-loop μ-loop
+add-i c = search needs
+
+loop-less : tie.Need-loop-less Inv-loop μ-loop
+loop-less c = search needs
+
+loop-again : tie.Need-loop-again Inv-loop μ-loop
+loop-again c = search needs
+
+returns : tie.Need-returns Inv-loop μ-loop
+returns c = search needs
+
+pub run-files-spec : {M : Type 1} → statement M
+run-files-spec =
+    tie.close
+    (tie.spec Inv-loop μ-loop arg-count-requires loop-holds run-named-requires add-i loop-less loop-again returns)

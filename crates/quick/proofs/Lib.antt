@@ -1,0 +1,12 @@
+pub mod Words
+pub mod Tests
+pub mod Parts
+pub mod Disjoint
+pub mod Swaps
+pub mod Permuted
+pub mod Loading
+pub mod Nibbles
+pub mod Keys
+pub mod Round
+pub mod Rounded
+pub mod Blocks
