@@ -6,9 +6,8 @@
 # No file of definitions of the commands, the calls and what they rest on names an engine.
 silent() {
     local found
-    found=$(grep -l -i -w -E 'engines?|quick|plain' crates/{commands_spec,purse_spec,channel,session,card,memory}/specs/*.antt |
-        xargs -r grep -n -i -E 'engine|quick' || true)
-    if [ -z "$found" ] && compgen -G 'crates/purse_spec/specs/*.antt' >/dev/null && compgen -G 'crates/commands_spec/specs/*.antt' >/dev/null; then
+    found=$(grep -n -i -E 'engine|quick' crates/{commands_spec,purse_spec,channel,session,card,memory}/specs/*.antt)
+    if [ $? -eq 1 ]; then # grep read every file, and found nothing
         pass "engines: no definition of the commands and the calls names an engine"
     else
         echo "$found"

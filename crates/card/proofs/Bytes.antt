@@ -9,7 +9,7 @@ use lib.ListN.{length, length-append}
 use Rattle.octets.specs.Bytes.{AreBytes, Octets, zeros, byteAt, field, allZero}
 use Rattle.octets.specs.Words.{word, wordAt}
 use Rattle.octets.proofs.Octets.{append-octets, word-octets, field-octets}
-use Rattle.octets.proofs.Numbers.{word-read, word-at-below}
+use Rattle.octets.proofs.Numbers.{word-at-below}
 use Rattle.octets.proofs.Parts.{field-at, field-part, part-between}
 use Rattle.octets.proofs.Equality.{zero-zeros, zeros-zero}
 use Rattle.card.specs.declared.head.Keys.{Keys}
@@ -17,6 +17,7 @@ use Rattle.card.specs.declared.log.Record.{Record}
 use Rattle.card.specs.Log.{recordSize, void, recordBytes, recordIn}
 use Rattle.card.specs.Keys.{keysSize, keyBytes, keysIn}
 use Rattle.card.specs.Proper.{SizedKeys, SizedRecord}
+use Rattle.card.proofs.Told.{record-places}
 
 -- a string between two others is a field
 field-between : (p s t : List ℕ) (at n : ℕ) → length p ≡ at → length s ≡ n → field (p ++ (s ++ t)) at n ≡ s
@@ -42,16 +43,10 @@ module _ (r : Record) (z : SizedRecord r) where
       ∙ field-between front (r .context) _ 8 16 refl (z .context .size)
 
   pub record-read : recordIn (recordBytes r) ≡ r
-  unfolding recordIn recordBytes
+  unfolding recordIn
   record-read =
-      λ i.
-      record {
-        number = word-read (r .number) i;
-        currency = word-read (r .currency) i;
-        amount = word-read (r .amount) i;
-        balance = word-read (r .balance) i;
-        context = context-read i;
-      }
+      let p = record-places r in
+      λ i. record { number = p .number i; currency = p .currency i; amount = p .amount i; balance = p .balance i; context = context-read i }
 
 -- a record of zeros is the void one
 zero-read : recordIn (zeros recordSize) ≡ void

@@ -1,3 +1,4 @@
+pub mod Told
 pub mod AsInstalled
 pub mod Bytes
 pub mod Ranges

@@ -5,6 +5,7 @@ use Rattle.session.specs.Transitions.{answered, reselected}
 use Rattle.session.specs.Access.{access, accessOf, hasRmac}
 use Rattle.session.specs.Codes.{amountOf}
 use Rattle.commands_spec.specs.Outcomes.{decided, refused, done}
+use Rattle.card.specs.Log.{recordBytes}
 use Rattle.card.specs.Updates.{withState, withBalance, withPurse}
 use Rattle.commands_spec.specs.Status.{administrative, operational}
 use Rattle.commands_spec.specs.Select.{selectAnswer, selectOf}
@@ -14,5 +15,5 @@ use Rattle.commands_spec.specs.CompleteTransaction.{isNoted, isDebit, co
 use Rattle.commands_spec.specs.Sums.{keys, card, session, transaction, selected, table, all}
 
 pub sums : T (all table)
-unfolding all same table transaction selected card keys session operational administrative notAboveZero newBalance logAmount initializeStatus lacks entitled noted keepsLimits isNoted isDebit amountOf completeStatus booked logRecord access accessOf hasRmac initializeTransactionOf completeTransactionOf decided refused done answered withState withBalance withPurse selectOf selectAnswer reselected
+unfolding all same table transaction selected card keys session operational administrative notAboveZero newBalance logAmount initializeStatus lacks entitled noted keepsLimits isNoted isDebit amountOf completeStatus booked logRecord access accessOf hasRmac initializeTransactionOf completeTransactionOf decided refused done answered withState withBalance withPurse selectOf selectAnswer reselected recordBytes
 sums = tt

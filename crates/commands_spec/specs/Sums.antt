@@ -6,10 +6,11 @@ use Prim.Native.Nat.{ℕ}
 use lib.Dec.{eqb}
 use Rattle.octets.specs.Choice.{pick}
 use Rattle.octets.specs.Bytes.{zeros, part, same}
-use Rattle.octets.specs.Words.{word}
+use Rattle.octets.specs.Words.{word, wordAt}
 use Rattle.octets.specs.Buffers.{content}
 use Rattle.card.specs.declared.head.KeySet.{KeySet}
 use Rattle.card.specs.declared.head.Head.{Head}
+use Rattle.card.specs.Log.{recordBytes}
 use Rattle.card.specs.Card.{noKeys, noAid}
 use Rattle.session.specs.declared.Set.the-variants.{Credit}
 use Rattle.session.specs.declared.Level.the-variants.{Rmac}
@@ -71,7 +72,7 @@ transaction h p1 amount =
     let first = initializeTransactionOf h session p1 (word currency ++ word amount) in
     let second = completeTransactionOf h (first .session) (zeros 16) in
     pick (eqb (first .status) 0x9000)
-    (first .status ∷ second .status ∷ second .head .purse .balance ∷ second .logged .amount ∷ [])
+    (first .status ∷ second .status ∷ second .head .purse .balance ∷ wordAt (recordBytes (second .logged)) 4 ∷ [])
     (first .status ∷ [])
 
 -- a debit's and a cash credit's P1
