@@ -1,4 +1,4 @@
--- The number that a row of bits says, one bit more at a time, and the entry that six bits select. Assumes nothing.
+-- The number that a list of bits says, one bit more at a time, and the entry that six bits select. Assumes nothing.
 use Prim.Native.Nat.{ℕ, suc, _+_, _*_, _^_, _<_, _≤_}
 use mathlib.Core.Path.{_≡_, sym, ap, _∙_, subst}
 use mathlib.Core.List.{List, [], _∷_, _++_}
@@ -11,7 +11,7 @@ use lib.Dec.{lit<}
 use lib.Pow.{pow-mono}
 use Rattle.des_spec.specs.Bits.{Bits, number}
 use Rattle.des_spec.specs.Des.{select}
-use Rattle.des_spec.proofs.Rows.{below-cons, below-replicate, below-take, below-drop, length-part, getD-part, of-elements}
+use Rattle.des_spec.proofs.Lists.{below-cons, below-replicate, below-take, below-drop, length-part, getD-part, of-elements}
 use Rattle.des_spec.proofs.Ranges.{number-lt}
 
 number-append : (l : List ℕ) (b : ℕ) → number (l ++ (b ∷ [])) ≡ 2 * number l + b
@@ -39,7 +39,7 @@ pub number-part : (l : List ℕ) (from n : ℕ) → Bits l → from + n ≤ leng
 number-part l from n b h =
     subst (λ (m : ℕ). number (take n (drop from l)) < 2 ^ m) (length-part l from n h) (number-lt (take n (drop from l)) (below-take n (drop from l) (below-drop from b)))
 
--- two bits of a row say a number below 4
+-- two bits of a list say a number below 4
 pub bits-pair : (l : List ℕ) (i j : ℕ) → Bits l → Bits (getD l i 0 ∷ getD l j 0 ∷ [])
 bits-pair l i j b = below-cons (b .at i) (below-cons (b .at j) (below-replicate 0 0 (lit< tt)))
 

@@ -1,4 +1,4 @@
--- What stands at each place of a row, in the form in which the engine computes it. Assumes nothing.
+-- What stands at each place of a list, in the form in which the engine computes it. Assumes nothing.
 use Prim.Native.Nat.{ℕ, zero, suc, _+_, _-_, _*_, _/_, _%_, _^_, _<_, _≤_}
 use mathlib.Core.Path.{_≡_, refl, ap, _∙_}
 use mathlib.Core.List.{List, [], _∷_, _++_, reverse, reverse-cons}
@@ -7,21 +7,20 @@ use native.Mathlib.Nat.{not-suc-le-zero, le-of-suc-le-suc}
 use native.Mathlib.Omega.{arith}
 use lib.ListN.{length, getD, take, drop, length-take, length-drop, List·getD-append, length-reverse}
 use lib.Seq.{getD-append-add, getD-take, getD-drop, drop-drop, getD-at}
+use lib.Dec.{lit<}
 use Rattle.des_spec.specs.Bits.{binaries}
 use Rattle.des_spec.specs.Tables.{S}
 use Rattle.des_spec.specs.Des.{select, selects, rotate, shiftHalves}
-use Rattle.des_spec.proofs.Rows.{lt-or-ge}
+use Rattle.des_spec.proofs.Lists.{lt-or-ge}
 use Rattle.des_spec.proofs.Lengths.{length-rotate, length-binaries, length-selects}
-use Rattle.des_spec.proofs.Elements.{getD-binaries}
+use Rattle.des_spec.proofs.Elements.{getD-spread}
 
 -- ---- the eight numbers of four bits
 pub length-nibbles : (l : List ℕ) → length l ≡ 8 → length (binaries 4 l) ≡ 32
 length-nibbles l e = length-binaries 4 l ∙ omega arith
 
 pub getD-nibbles : (l : List ℕ) (i : ℕ) → length l ≡ 8 → i < 32 → getD (binaries 4 l) i 0 ≡ getD l (i / 4) 0 / 2 ^ (3 - i % 4) % 2
-getD-nibbles l i e h =
-    let a : i ≡ 4 * (i / 4) + i % 4 = omega arith in
-    ap (λ (m : ℕ). getD (binaries 4 l) m 0) a ∙ getD-binaries 4 l (i / 4) (i % 4) (omega arith) (omega arith)
+getD-nibbles l i e h = getD-spread 4 l i (lit< tt) (omega arith)
 
 -- ---- the entries of the selection functions
 pub length-S : length S ≡ 8

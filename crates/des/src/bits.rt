@@ -1,4 +1,4 @@
-// Rows of bits: bytes to bits, bits to numbers and bytes, and addition modulo 2.
+// Lists of bits: bytes to bits, bits to numbers and bytes, and addition modulo 2.
 ghost use mathlib.Core.Path.{_≡_};
 ghost use Prim.Native.Nat.{_/_, _%_, _^_, _<_, _≤_};
 ghost use lib.ListN.{length};

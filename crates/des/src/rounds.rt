@@ -22,7 +22,7 @@ fn half(block: [u8; 64], from: usize) -> [u8; 32]
     out
 }
 
-// Bit i of two halves in a row.
+// Bit i of two halves, one after the other.
 fn bit_of(a: [u8; 32], b: [u8; 32], i: usize) -> u8
     requires { ⌜ i < 64 ⌝ }
     ensures { λ r. ⌜ r ≡ getD (a ++ b) i 0 ⌝ }

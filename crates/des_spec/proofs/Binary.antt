@@ -9,7 +9,7 @@ use lib.ListN.{length, take, drop, length-take, length-drop, take-append-drop}
 use lib.Seq.{take-at, drop-at}
 use lib.Pow.{mod-pow-add, high, pow-pos}
 use Rattle.des_spec.specs.Bits.{Bits, Bytes, binary, number, binaries, parts, bitsOf, bytesOf}
-use Rattle.des_spec.proofs.Rows.{below-head, below-tail, below-take, below-drop}
+use Rattle.des_spec.proofs.Lists.{below-head, below-tail, below-take, below-drop}
 use Rattle.des_spec.proofs.Lengths.{length-binary}
 use Rattle.des_spec.proofs.Ranges.{number-lt}
 

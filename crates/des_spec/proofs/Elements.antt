@@ -1,15 +1,16 @@
--- What stands at each place of the rows of the definitions. Assumes nothing.
+-- What stands at each place of the lists of the definitions. Assumes nothing.
 use Prim.Native.Nat.{ℕ, zero, suc, _+_, _-_, _*_, _/_, _%_, _^_, _<_}
 use mathlib.Core.Path.{_≡_, sym, ap, _∙_, subst}
 use mathlib.Core.List.{List, [], _∷_, _++_}
-use native.Mathlib.Nat.{not-suc-le-zero, le-of-suc-le-suc, mul-suc, mul-zero, zero-add, add-comm, add-assoc}
+use native.Mathlib.Nat.{not-suc-le-zero, le-of-suc-le-suc, mul-suc, mul-zero, mul-comm, zero-add, add-comm, add-assoc, div-add-mod, mod-lt, div-lt-iff-lt-mul}
 use native.Mathlib.Omega.{arith}
 use lib.ListN.{length, getD, take, drop, List·getD-append}
 use lib.Seq.{getD-append-add, drop-drop}
+use lib.Dec.{lit<}
 use lib.Bits.{bitXor}
 use Rattle.des_spec.specs.Bits.{binary, number, binaries, parts, bitsOf, bytesOf, xor, xorBytes}
 use Rattle.des_spec.specs.Des.{permute}
-use Rattle.des_spec.proofs.Rows.{getD-map, getD-zipWith}
+use Rattle.des_spec.proofs.Lists.{getD-map, getD-zipWith}
 use Rattle.des_spec.proofs.Lengths.{length-binary, length-parts}
 
 pub getD-binary : (n v r : ℕ) → r < n → getD (binary n v) r 0 ≡ v / 2 ^ (n - 1 - r) % 2
@@ -37,11 +38,15 @@ getD-binaries n (v ∷ vs) (suc q) r h g =
     ∙ getD-append-add (binary n v) (binaries n vs) (n * q + r) 0
     ∙ getD-binaries n vs q r (le-of-suc-le-suc h) g
 
+-- bit i of all the numbers
+pub getD-spread : (n : ℕ) (vs : List ℕ) (i : ℕ) → 0 < n → i < n * length vs → getD (binaries n vs) i 0 ≡ getD vs (i / n) 0 / 2 ^ (n - 1 - i % n) % 2
+getD-spread n vs i h g =
+    let q : i / n < length vs = div-lt-iff-lt-mul h .1 (subst (λ (m : ℕ). i < m) (mul-comm n (length vs)) g) in
+    ap (λ (m : ℕ). getD (binaries n vs) m 0) (sym (div-add-mod i n)) ∙ getD-binaries n vs (i / n) (i % n) q (mod-lt i h)
+
 pub getD-bitsOf : (l : List ℕ) (i : ℕ) → i < 8 * length l → getD (bitsOf l) i 0 ≡ getD l (i / 8) 0 / 2 ^ (7 - i % 8) % 2
 unfolding bitsOf
-getD-bitsOf l i h =
-    let a : i ≡ 8 * (i / 8) + i % 8 = omega arith in
-    ap (λ (m : ℕ). getD (binaries 8 l) m 0) a ∙ getD-binaries 8 l (i / 8) (i % 8) (omega arith) (omega arith)
+getD-bitsOf l i h = getD-spread 8 l i (lit< tt) h
 
 pub getD-parts : (n w : ℕ) (l : List ℕ) (i : ℕ) → i < n → getD (parts n w l) i [] ≡ take w (drop (w * i) l)
 unfolding parts

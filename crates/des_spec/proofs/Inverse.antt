@@ -10,7 +10,7 @@ use Rattle.des_spec.specs.Bits.{Bits, Bytes, bitsOf, bytesOf, xor, xorBy
 use Rattle.des_spec.specs.Tables.{IP, IP⁻¹}
 use Rattle.des_spec.specs.Des.{encipher, decipher, permute, cipher, rounds, crypt, order, schedule, roundKeys, blockUnder, des}
 use Rattle.des_spec.specs.Modes.{tripleDes, ecb, cbc, ecbText, cbcText}
-use Rattle.des_spec.proofs.Rows.{below-take, below-drop}
+use Rattle.des_spec.proofs.Lists.{below-take, below-drop}
 use Rattle.des_spec.proofs.Lengths.{length-permute, length-xor, length-xorBytes, length-cipher, length-bitsOf, length-crypt, length-des, length-tripleDes}
 use Rattle.des_spec.proofs.Ranges.{bits-permute, bits-xor, bits-bitsOf, bits-crypt, bytes-xorBytes, bytes-des}
 use Rattle.des_spec.proofs.Binary.{bits-of-bytes, bytes-of-bits}

@@ -1,4 +1,4 @@
--- How long each row of the definitions is. Assumes nothing.
+-- How long each list of the definitions is. Assumes nothing.
 use Prim.Native.Nat.{ℕ, zero, suc, _+_, _-_, _*_, _%_, _≤_}
 use mathlib.Core.Path.{_≡_, refl, sym, ap, _∙_}
 use mathlib.Core.Bool.{Bool, true, false}
@@ -11,7 +11,7 @@ use Rattle.des_spec.specs.Bits.{binary, number, binaries, parts, bitsOf,
 use Rattle.des_spec.specs.Tables.{IP⁻¹, P, shifts}
 use Rattle.des_spec.specs.Des.{permute, selects, cipher, rotate, shiftHalves, keysFrom, schedule, rounds, crypt, order, roundKeys, blockUnder, des}
 use Rattle.des_spec.specs.Modes.{tripleDes}
-use Rattle.des_spec.proofs.Rows.{length-zipWith}
+use Rattle.des_spec.proofs.Lists.{length-zipWith}
 
 pub length-binary : (n v : ℕ) → length (binary n v) ≡ n
 unfolding binary

@@ -1,4 +1,4 @@
-pub mod Rows
+pub mod Lists
 pub mod Lengths
 pub mod Elements
 pub mod Ranges

@@ -8,7 +8,7 @@ use lib.Seq.{take-append-le, drop-append-le, getD-at, getD-append-add}
 use lib.Dec.{lit<}
 use Rattle.des_spec.specs.Bits.{Bytes}
 use Rattle.des_spec.specs.Modes.{blocks, rest, padded}
-use Rattle.des_spec.proofs.Rows.{below-append, below-cons, below-replicate}
+use Rattle.des_spec.proofs.Lists.{below-append, below-cons, below-replicate}
 
 pub length-padded : (t : List ℕ) → length (padded t) ≡ 8 * suc (length t / 8)
 unfolding padded

@@ -11,7 +11,7 @@ use lib.Dec.{T, leb, leb→le}
 use Rattle.des_spec.specs.Bits.{Names}
 use Rattle.des_spec.specs.Tables.{IP, IP⁻¹}
 use Rattle.des_spec.specs.Des.{permute}
-use Rattle.des_spec.proofs.Rows.{elements, of-elements}
+use Rattle.des_spec.proofs.Lists.{elements, of-elements}
 use Rattle.des_spec.proofs.Elements.{getD-permute}
 
 pub and-left : (a b : Bool) → T (a && b) → T a

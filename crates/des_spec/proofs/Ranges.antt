@@ -1,4 +1,4 @@
--- The rows of bits hold bits, and the rows of bytes bytes. Assumes nothing.
+-- The lists of bits hold bits, and the lists of bytes bytes. Assumes nothing.
 use Prim.Native.Nat.{ℕ, zero, suc, _+_, _-_, _%_, _^_, _<_, _≤_}
 use mathlib.Core.Bool.{Bool}
 use mathlib.Core.List.{List, [], _∷_}
@@ -13,7 +13,7 @@ use Rattle.des_spec.specs.Bits.{Bits, Bytes, binary, number, binaries, p
 use Rattle.des_spec.specs.Tables.{IP, IP⁻¹}
 use Rattle.des_spec.specs.Des.{permute, cipher, rounds, crypt, roundKeys, blockUnder, des}
 use Rattle.des_spec.specs.Modes.{tripleDes}
-use Rattle.des_spec.proofs.Rows.{below-zipWith, below-cons, below-head, below-tail, below-append, below-drop, below-take}
+use Rattle.des_spec.proofs.Lists.{below-zipWith, below-cons, below-head, below-tail, below-append, below-drop, below-take}
 
 pub bits-binary : (n v : ℕ) → Bits (binary n v)
 unfolding binary

@@ -8,7 +8,7 @@ use lib.Seq.{drop-at, drop-drop, take-all}
 use Rattle.des_spec.specs.Bits.{Bytes, xorBytes}
 use Rattle.des_spec.specs.Des.{encipher}
 use Rattle.des_spec.specs.Modes.{tripleDes, cbc, blocks, cbcText, padded, lastBlock, signature}
-use Rattle.des_spec.proofs.Rows.{below-drop}
+use Rattle.des_spec.proofs.Lists.{below-drop}
 use Rattle.des_spec.proofs.Lengths.{length-tripleDes}
 use Rattle.des_spec.specs.Walk.{Mode, walk, after, cbcEncipherBy, cbcMode}
 use Rattle.des_spec.proofs.Walk.{cbc-walk}

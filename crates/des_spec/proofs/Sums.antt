@@ -1,4 +1,4 @@
--- What is added modulo 2 twice is gone: of bits, of bytes and of rows. Assumes nothing.
+-- What is added modulo 2 twice is gone: of bits, of bytes and of lists of them. Assumes nothing.
 use Prim.Native.Nat.{ℕ, zero, suc, _+_, _*_, _/_, _%_, _^_, _<_, _≤_}
 use mathlib.Core.Path.{_≡_, refl, sym, ap, _∙_, subst}
 use mathlib.Core.List.{List, [], _∷_, zipWith}

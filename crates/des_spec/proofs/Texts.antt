@@ -9,7 +9,7 @@ use lib.Dec.{lit<}
 use Rattle.des_spec.specs.Bits.{Bytes, xorBytes}
 use Rattle.des_spec.specs.Des.{encipher, decipher}
 use Rattle.des_spec.specs.Modes.{tripleDes, ecb, cbc, ecbText, cbcText}
-use Rattle.des_spec.proofs.Rows.{below-replicate}
+use Rattle.des_spec.proofs.Lists.{below-replicate}
 use Rattle.des_spec.proofs.Lengths.{length-xorBytes, length-tripleDes}
 use Rattle.des_spec.proofs.Ranges.{bytes-xorBytes, bytes-tripleDes}
 use Rattle.des_spec.specs.Walk.{ecbBy, cbcEncipherBy, cbcDecipherBy, ecbMode, cbcMode}

@@ -10,7 +10,7 @@ use Rattle.des_spec.specs.Bits.{Bytes, xorBytes}
 use Rattle.des_spec.specs.Des.{encipher, decipher}
 use Rattle.des_spec.specs.Modes.{tripleDes, ecb, cbcEncipher, cbcDecipher, cbc, blocks, rest, ecbText, cbcText}
 use Rattle.des_spec.specs.Walk.{Mode, walk, walkText, after, ecbBy, cbcEncipherBy, cbcDecipherBy, ecbMode, cbcMode}
-use Rattle.des_spec.proofs.Rows.{below-append, below-drop, below-take}
+use Rattle.des_spec.proofs.Lists.{below-append, below-drop, below-take}
 
 -- ECB and CBC are such walks
 pub ecb-walk : (n : ℕ) (d : Bool) (key value text : List ℕ) → ecb n d key text ≡ walk (ecbMode d key) n value text

@@ -16,7 +16,7 @@ encipher = false
 abbrev pub decipher : Bool
 decipher = true
 
--- the bits of a row that a table names, counted from 1
+-- the bits of a list that a table names, counted from 1
 unfoldable pub permute : List ℕ → List ℕ → List ℕ
 permute table l = map (λ (i : ℕ). getD l (i - 1) 0) table
 
@@ -27,7 +27,7 @@ select box b =
     (number (getD b 1 0 ∷ getD b 2 0 ∷ getD b 3 0 ∷ getD b 4 0 ∷ []))
     0
 
--- the entries of the selection functions, each for the next six bits of a row
+-- the entries of the selection functions, each for the next six bits of a list
 unfoldable pub selects : List (List (List ℕ)) → List ℕ → List ℕ
 selects [] l = []
 selects (box ∷ boxes) l = select box (take 6 l) ∷ selects boxes (drop 6 l)
@@ -36,7 +36,7 @@ selects (box ∷ boxes) l = select box (take 6 l) ∷ selects boxes (drop 6 l)
 unfoldable pub cipher : List ℕ → List ℕ → List ℕ
 cipher r k = permute P (binaries 4 (selects S (xor (permute E r) k)))
 
--- a row shifted left by n places, the bits that leave it coming in on the right
+-- a list shifted left by n places, the bits that leave it coming in on the right
 unfoldable pub rotate : ℕ → List ℕ → List ℕ
 rotate n l = drop n l ++ take n l
 

@@ -120,7 +120,7 @@ S8 =
 unfoldable pub S : List (List (List ℕ))
 S = S1 ∷ S2 ∷ S3 ∷ S4 ∷ S5 ∷ S6 ∷ S7 ∷ S8 ∷ []
 
--- permuted choice 1 of the key schedule: the first four rows are C, the last four D
+-- permuted choice 1 of the key schedule: the first four lines are C, the last four D
 unfoldable pub PC1 : List ℕ
 PC1 =
     57 ∷ 49 ∷ 41 ∷ 33 ∷ 25 ∷ 17 ∷ 9 ∷

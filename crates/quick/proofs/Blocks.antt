@@ -30,7 +30,7 @@ module _ (key ks : List ℕ) (x z : ℕ) (loaded : binary 64 x ≡ bitsOf key) (
   back d r e f = ap (map keyBits) f ∙ map-reverse keyBits ks ∙ ap reverse scheduled ∙ ap (λ (b : Bool). roundKeys b key) (sym e)
 
 -- ---- blocks
--- the rounds under some keys, on the halves of a row
+-- the rounds under some keys, on the halves of a list
 abbrev turns : List ℕ → List ℕ → List ℕ
 turns ks l = rounds (map keyBits ks) (take 32 l) (drop 32 l)
 

@@ -93,7 +93,7 @@ module _ {m n : List ℕ} {a b : ℕ} (p : Inside m a) (q : Inside n b) (t : T (
 pub inside : {i w : ℕ} (j : ℕ) → w < 2 ^ 32 → Word i w → i / 64 ≡ j → Inside (mask j) w
 inside {w = w} j h o e = record { below = h; only = subst (λ (n : ℕ). masked (mask n) (binary 32 w) ≡ binary 32 w) e (o .only) }
 
--- the places of two selection functions in a row
+-- the places of two neighbouring selection functions
 pub pair : ℕ → List ℕ
 pair i = permute P (binary 32 (255 * 2 ^ (24 - 4 * i)))
 

@@ -1,5 +1,5 @@
--- Exchanges of bits in a word. What a function does to rows of bits that passes through sums is told by what it does to single bits: one computed test
--- of 64 rows. Assumes nothing.
+-- Exchanges of bits in a word. What a function does to lists of bits that passes through sums is told by what it does to single bits: one computed test
+-- of 64 lists. Assumes nothing.
 use mathlib.Core.Path.{_≡_, refl, sym, ap, ap₂, _∙_, subst}
 use mathlib.Core.Bool.{Bool}
 use mathlib.Core.List.{List, [], _∷_, _++_, zipWith}
@@ -19,7 +19,7 @@ use Rattle.quick.specs.Words.{masked, rightward, leftward, swapped}
 use Rattle.quick.proofs.Words.{binary-xor, binary-mod, binary-append, binary-join, high-half, low-half, permute-xor}
 use Rattle.quick.proofs.Tests.{at, every, same, same-eq}
 
--- ---- the code's word, as a row of bits
+-- ---- the code's word, as a list of bits
 and-bit : (a b : ℕ) → bitAnd a b % 2 ≡ min (a % 2) (b % 2)
 and-bit a b = omega (arith, and-step a b, min-le-left (a % 2) (b % 2))
 

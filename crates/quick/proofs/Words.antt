@@ -1,4 +1,4 @@
--- Words and their bits: what addition modulo 2, shifts and remainders of a word do to its row of bits. Assumes nothing.
+-- Words and their bits: what addition modulo 2, shifts and remainders of a word do to its list of bits. Assumes nothing.
 use mathlib.Core.Path.{_≡_, refl, sym, ap, ap₂, _∙_}
 use mathlib.Core.List.{List, [], _∷_, _++_, zipWith}
 use Prim.Native.Nat.{ℕ, zero, suc, _+_, _-_, _*_, _/_, _%_, _^_, _<_}

@@ -24,7 +24,7 @@ keyBits k = permute places (binary 64 k)
 unfoldable pub placed : ℕ → ℕ → List ℕ
 placed i x = permute P (binary 32 (select (getD S i []) (binary 6 x) * 2 ^ (28 - 4 * i)))
 
--- the bits of a row where a mask has ones, zeros elsewhere
+-- the bits of a list where a mask has ones, zeros elsewhere
 unfoldable pub masked : List ℕ → List ℕ → List ℕ
 masked [] l = []
 masked (c ∷ m) [] = []
@@ -51,14 +51,14 @@ pub record Chosen (t : List ℕ) : Type 0 where
   pub size : length t ≡ 224
   pub each : (k : ℕ) → k < length t → keyBits (getD t k 0) ≡ permute PC2 (binary 56 (k % 16 * 2 ^ (4 * (k / 16))))
 
--- a row of 64 bits moved by s places to the right, and to the left, zeros coming in
+-- a list of 64 bits moved by s places to the right, and to the left, zeros coming in
 unfoldable pub rightward : ℕ → List ℕ → List ℕ
 rightward s l = binary s 0 ++ take (64 - s) l
 
 unfoldable pub leftward : ℕ → List ℕ → List ℕ
 leftward s l = drop s l ++ binary s 0
 
--- a row of 64 bits, those where the mask has ones exchanged with those s places to their left
+-- a list of 64 bits, those where the mask has ones exchanged with those s places to their left
 unfoldable pub swapped : ℕ → List ℕ → List ℕ → List ℕ
 swapped s m l =
     let t = masked m (xor (rightward s l) l) in

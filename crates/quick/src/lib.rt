@@ -1,4 +1,4 @@
-// The quick engine of DES, on words where the plain engine has rows of bits. Each selection function is joined with the permutation
+// The quick engine of DES, on words where the plain engine has lists of bits. Each selection function is joined with the permutation
 // behind it in one table of 512 words; the round keys of a key are 16 words. The caller makes the tables once and lends them.
 mod bytes;
 mod key_table;

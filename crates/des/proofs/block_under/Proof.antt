@@ -1,4 +1,4 @@
--- `block_under` is the composition of its parts; what becomes bytes is a row of bits. Assumes nothing.
+-- `block_under` is the composition of its parts; what becomes bytes is a list of bits. Assumes nothing.
 use mathlib.Core.Path.{ap, _∙_}
 use borrow.Author.Needs.{needs}
 use Rattle.des_spec.specs.Bits.{bytesOf}

@@ -1,11 +1,11 @@
--- `bytes_of` fills its row byte by byte. Assumes nothing.
+-- `bytes_of` fills its array byte by byte. Assumes nothing.
 use Prim.Native.Nat.{ℕ, _+_, _-_, _*_}
 use mathlib.Core.Path.{_≡_, sym, ap, _∙_}
 use native.Mathlib.Omega.{arith}
 use borrow.Author.Needs.{needs}
 use lib.ListN.{length, take, drop}
 use Rattle.des_spec.specs.Bits.{number, bytesOf}
-use Rattle.des_spec.proofs.Rows.{below-take, below-drop, length-part}
+use Rattle.des_spec.proofs.Lists.{below-take, below-drop, length-part}
 use Rattle.des_spec.proofs.Lengths.{length-bytesOf}
 use Rattle.des_spec.proofs.Elements.{getD-bytesOf}
 use Rattle.octets.proofs.Filling.{Filled, fill-start, fill-step, fill-done}

@@ -1,4 +1,4 @@
--- `nibbles` fills its row bit by bit. Assumes nothing.
+-- `nibbles` fills its array bit by bit. Assumes nothing.
 use Prim.Native.Nat.{_-_}
 use mathlib.Core.Path.{_≡_, sym, _∙_}
 use native.Mathlib.Omega.{arith}

@@ -1,4 +1,4 @@
--- `xor` fills its row bit by bit. Assumes nothing.
+-- `xor` fills its array bit by bit. Assumes nothing.
 use Prim.Native.Nat.{_-_}
 use mathlib.Core.Path.{_≡_}
 use native.Mathlib.Omega.{arith}

@@ -1,4 +1,4 @@
--- `choice2`: its table names bits of a row of 56, by one test. Assumes nothing.
+-- `choice2`: its table names bits of a list of 56, by one test. Assumes nothing.
 use mathlib.Core.Path.{refl}
 use borrow.Author.Needs.{needs}
 use Rattle.des_spec.specs.Tables.{PC2}

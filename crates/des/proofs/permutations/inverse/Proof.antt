@@ -1,4 +1,4 @@
--- `inverse`: its table names bits of a row of 64, by one test. Assumes nothing.
+-- `inverse`: its table names bits of a list of 64, by one test. Assumes nothing.
 use mathlib.Core.Path.{refl}
 use borrow.Author.Needs.{needs}
 use Rattle.des_spec.specs.Tables.{IP⁻¹}

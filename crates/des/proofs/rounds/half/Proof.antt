@@ -1,10 +1,10 @@
--- `half` fills its row bit by bit. Assumes nothing.
+-- `half` fills its array bit by bit. Assumes nothing.
 use Prim.Native.Nat.{_-_}
 use mathlib.Core.Path.{_≡_, sym}
 use native.Mathlib.Omega.{arith}
 use borrow.Author.Needs.{needs}
 use lib.ListN.{length, take, drop}
-use Rattle.des_spec.proofs.Rows.{length-part, getD-part}
+use Rattle.des_spec.proofs.Lists.{length-part, getD-part}
 use Rattle.octets.proofs.Filling.{Filled, fill-start, fill-step, fill-done}
 use Rattle.des.proofs.rounds.half.Statement.{statement}
 use Rattle.des.proofs.rounds.half.Tie as tie

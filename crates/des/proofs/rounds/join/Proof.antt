@@ -1,4 +1,4 @@
--- `join` fills its row bit by bit. Assumes nothing.
+-- `join` fills its array bit by bit. Assumes nothing.
 use Prim.Native.Nat.{_-_}
 use mathlib.Core.Path.{_≡_}
 use mathlib.Core.List.{_++_}

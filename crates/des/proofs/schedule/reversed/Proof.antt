@@ -1,4 +1,4 @@
--- `reversed` fills its row key by key. Assumes nothing.
+-- `reversed` fills its array key by key. Assumes nothing.
 use Prim.Native.Nat.{ℕ, _-_}
 use mathlib.Core.Path.{_≡_, sym, ap, _∙_}
 use mathlib.Core.List.{[], reverse}

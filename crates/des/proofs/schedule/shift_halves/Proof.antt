@@ -1,4 +1,4 @@
--- `shift_halves` fills its row bit by bit. Assumes nothing.
+-- `shift_halves` fills its array bit by bit. Assumes nothing.
 use Prim.Native.Nat.{_-_}
 use mathlib.Core.Path.{_≡_, sym}
 use native.Mathlib.Omega.{arith}

@@ -1,4 +1,4 @@
--- `cipher` is the composition of its parts; what is selected from is a row of bits, as a sum modulo 2 is. Assumes nothing.
+-- `cipher` is the composition of its parts; what is selected from is a list of bits, as a sum modulo 2 is. Assumes nothing.
 use Prim.Native.Nat.{ℕ}
 use mathlib.Core.Path.{ap, _∙_}
 use mathlib.Core.List.{List}

@@ -7,7 +7,7 @@ use borrow.Author.Needs.{needs}
 use lib.ListN.{length, getD, take, drop}
 use Rattle.des_spec.specs.Bits.{number}
 use Rattle.des_spec.specs.Tables.{S}
-use Rattle.des_spec.proofs.Rows.{below-take, below-drop, length-part}
+use Rattle.des_spec.proofs.Lists.{below-take, below-drop, length-part}
 use Rattle.des.proofs.Numbers.{number-part, bits-pair, number-pair, select-part}
 use Rattle.des.proofs.selection.select.Statement.{statement}
 use Rattle.des.proofs.selection.select.Tie as tie

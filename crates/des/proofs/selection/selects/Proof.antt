@@ -1,4 +1,4 @@
--- `selects` fills its row entry by entry. Assumes nothing.
+-- `selects` fills its array entry by entry. Assumes nothing.
 use Prim.Native.Nat.{_-_}
 use mathlib.Core.Path.{sym, _∙_}
 use native.Mathlib.Omega.{arith}

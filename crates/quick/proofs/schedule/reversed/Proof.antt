@@ -1,4 +1,4 @@
--- `reversed` fills its row key by key. Assumes nothing.
+-- `reversed` fills its array key by key. Assumes nothing.
 use borrow.Author.Needs.{needs}
 use Prim.Native.Nat.{_-_}
 use mathlib.Core.Path.{refl}

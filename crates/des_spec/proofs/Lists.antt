@@ -1,4 +1,4 @@
--- Rows in general: the elements of what `map` and `zipWith` make, parts of a row, and bounds on the elements. Assumes nothing.
+-- Lists in general: the elements of what `map` and `zipWith` make, parts of a list, and bounds on the elements. Assumes nothing.
 use Prim.Native.Nat.{ℕ, zero, suc, _+_, _<_, _≤_, zero-le, suc-le-suc}
 use mathlib.Core.Path.{_≡_, refl, ap, _∙_, subst}
 use mathlib.Core.List.{List, [], _∷_, _++_, map, zipWith}
