@@ -1,4 +1,5 @@
 pub mod Lists
+pub mod Tests
 pub mod Lengths
 pub mod Elements
 pub mod Ranges

@@ -15,7 +15,7 @@ use Rattle.des_spec.specs.Des.{encipher, decipher, permute, schedule, ro
 use Rattle.des_spec.specs.Modes.{tripleDes, ecb, cbc, ecbText, cbcText, padded, lastBlock, signature}
 use Rattle.des_spec.proofs.Lengths.{length-permute}
 use Rattle.des_spec.proofs.Elements.{getD-permute, getD-bitsOf}
-use Rattle.des_spec.proofs.Permutations.{and-left, and-right, each-at}
+use Rattle.des_spec.proofs.Tests.{and-left, and-right, each-at}
 use Rattle.des_spec.specs.Walk.{Mode, walk, ecbBy, cbcEncipherBy, cbcDecipherBy, ecbMode, cbcMode}
 use Rattle.des_spec.proofs.Walk.{ecb-walk, cbc-walk, zeros}
 

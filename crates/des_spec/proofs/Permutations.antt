@@ -1,9 +1,9 @@
 -- The initial permutation and its inverse undo each other. Assumes nothing.
 use Prim.Native.Nat.{ℕ, zero, suc, _-_, _<_, _≤_}
 use mathlib.Core.Path.{_≡_, refl, sym, ap, _∙_}
-use mathlib.Core.Bool.{Bool, true, false, _&&_}
+use mathlib.Core.Bool.{Bool, _&&_}
 use mathlib.Core.List.{List, [], _∷_}
-use native.Mathlib.Nat.{not-suc-le-zero, le-of-suc-le-suc, le-trans}
+use native.Mathlib.Nat.{le-trans}
 use native.Mathlib.Omega.{arith}
 use lib.ListN.{length, getD}
 use lib.Seq.{take-all}
@@ -11,26 +11,9 @@ use lib.Dec.{T, leb, leb→le}
 use Rattle.des_spec.specs.Bits.{Names}
 use Rattle.des_spec.specs.Tables.{IP, IP⁻¹}
 use Rattle.des_spec.specs.Des.{permute}
+use Rattle.des_spec.proofs.Tests.{and-left, and-right, each, each-at}
 use Rattle.des_spec.proofs.Lists.{elements, of-elements}
 use Rattle.des_spec.proofs.Elements.{getD-permute}
-
-pub and-left : (a b : Bool) → T (a && b) → T a
-and-left true b t = tt
-and-left false b t = t
-
-pub and-right : (a b : Bool) → T (a && b) → T b
-and-right true b t = t
-and-right false b t = absurd t
-
--- one test over a whole table, and what it says at each entry
-abbrev pub each : (ℕ → Bool) → List ℕ → Bool
-each f [] = true
-each f (x ∷ t) = f x && each f t
-
-pub each-at : (f : ℕ → Bool) (t : List ℕ) → T (each f t) → (k : ℕ) → k < length t → T (f (getD t k 0))
-each-at f [] h k l = absurd (not-suc-le-zero l)
-each-at f (x ∷ t) h zero l = and-left (f x) (each f t) h
-each-at f (x ∷ t) h (suc k) l = each-at f t (and-right (f x) (each f t) h) k (le-of-suc-le-suc l)
 
 -- an entry of 1 to n
 abbrev pub within : ℕ → ℕ → Bool

@@ -1,5 +1,4 @@
 pub mod Words
-pub mod Tests
 pub mod Parts
 pub mod Disjoint
 pub mod Swaps

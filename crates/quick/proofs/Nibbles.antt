@@ -14,7 +14,7 @@ use Rattle.des_spec.specs.Des.{permute}
 use Rattle.des_spec.specs.Tables.{PC2}
 use Rattle.quick.specs.Words.{keyBits, places, Chosen}
 use Rattle.quick.proofs.Words.{permute-xor, binary-mod}
-use Rattle.quick.proofs.Tests.{at, every, same, same-eq}
+use Rattle.des_spec.proofs.Tests.{at, every, same, same-eq}
 
 key-xor : (a b : ℕ) → keyBits (bitXor a b) ≡ xor (keyBits a) (keyBits b)
 unfolding keyBits

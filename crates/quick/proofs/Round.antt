@@ -11,7 +11,7 @@ use lib.ListN.{getD, take, drop}
 use Rattle.des_spec.specs.Bits.{binary, number, xor, binaries}
 use Rattle.des_spec.specs.Des.{permute, select, selects, cipher, rotate}
 use Rattle.des_spec.specs.Tables.{E, P, S, S1, S2, S3, S4, S5, S6, S7, S8}
-use Rattle.des_spec.proofs.Permutations.{and-left, and-right}
+use Rattle.des_spec.proofs.Tests.{and-left, and-right}
 use Rattle.quick.specs.Words.{placed, keyBits, places, Word}
 use Rattle.quick.proofs.Words.{binary-xor, binary-shr, binary-mod, digitsFrom, turn-law, high-half, low-half}
 use Rattle.quick.proofs.Parts.{Part, first, more, whole}

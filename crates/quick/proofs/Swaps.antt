@@ -17,7 +17,7 @@ use Rattle.des_spec.specs.Des.{permute}
 use Rattle.des_spec.proofs.Lengths.{length-binary, length-xor}
 use Rattle.quick.specs.Words.{masked, rightward, leftward, swapped}
 use Rattle.quick.proofs.Words.{binary-xor, binary-mod, binary-append, binary-join, high-half, low-half, permute-xor}
-use Rattle.quick.proofs.Tests.{at, every, same, same-eq}
+use Rattle.des_spec.proofs.Tests.{at, every, same, same-eq}
 
 -- ---- the code's word, as a list of bits
 and-bit : (a b : ℕ) → bitAnd a b % 2 ≡ min (a % 2) (b % 2)

@@ -9,7 +9,7 @@ use Rattle.des_spec.specs.Bits.{binary, number}
 use Rattle.des_spec.specs.Des.{permute, select}
 use Rattle.des_spec.specs.Tables.{S, P, S1, S2, S3, S4, S5, S6, S7, S8}
 use Rattle.quick.specs.Words.{placed, masked, mask, Boxed}
-use Rattle.quick.proofs.Tests.{at, every, same, same-eq}
+use Rattle.des_spec.proofs.Tests.{at, every, same, same-eq}
 use Rattle.quick.proofs.table.boxes.Statement.{statement}
 use Rattle.quick.proofs.table.boxes.Tie as tie
 

@@ -7,7 +7,14 @@ use Prim.Native.Nat.{ℕ, zero, suc, _+_, _<_}
 use native.Mathlib.Nat.{add-zero, zero-add, add-suc, suc-add, le-of-suc-le-suc, not-suc-le-zero}
 use lib.Dec.{T, eqb, eqb→eq}
 use lib.ListN.{length, getD}
-use Rattle.des_spec.proofs.Permutations.{and-left, and-right}
+
+pub and-left : (a b : Bool) → T (a && b) → T a
+and-left true b t = tt
+and-left false b t = t
+
+pub and-right : (a b : Bool) → T (a && b) → T b
+and-right true b t = t
+and-right false b t = absurd t
 
 -- the test f passes at each entry and its place, counted from i
 abbrev pub every : (ℕ → ℕ → Bool) → ℕ → List ℕ → Bool
@@ -23,6 +30,13 @@ from f (x ∷ xs) i t (suc k) h =
 
 pub at : (f : ℕ → ℕ → Bool) (xs : List ℕ) → T (every f 0 xs) → (k : ℕ) → k < length xs → T (f k (getD xs k 0))
 at f xs t k h = subst (λ (m : ℕ). T (f m (getD xs k 0))) (zero-add k) (from f xs 0 t k h)
+
+-- a test that asks for no place
+abbrev pub each : (ℕ → Bool) → List ℕ → Bool
+each f xs = every (λ k x. f x) 0 xs
+
+pub each-at : (f : ℕ → Bool) (xs : List ℕ) → T (each f xs) → (k : ℕ) → k < length xs → T (f (getD xs k 0))
+each-at f xs t k h = at (λ k x. f x) xs t k h
 
 -- two lists are the same, entry by entry
 abbrev pub same : List ℕ → List ℕ → Bool
