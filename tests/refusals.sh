@@ -4,18 +4,24 @@
 # antt's trial run, which unfolds more names, doesn't admit what it stands at.
 . "$(dirname "$0")/lib.sh"
 
-# What no false fact is said by.
+# What no false fact is said by, on an error's first line; and on the lines below it, where antt also gives hints on names and scopes.
 MISSING='is not in scope|has no field|missing field|can be named from here'
+MISSING_BELOW='has no field|missing field|can be named from here'
 
 # Where a log's first error stands and what it says, on one line; a function whose proof antt was to find has a note instead.
 first_error() {
     grep -m 1 -E '^[^ ]+: error: ' "$1" || grep -m 1 -E '^note: [^ ]+:[0-9]+:[0-9]+: ' "$1"
 }
 
-# Whether an error is a false fact: its text without the folder of the edited crate.
+# The lines that go on with a log's first error: those below it, indented.
+below_first_error() {
+    awk '/^[^ ]+: error: / && !seen { seen = 1; next } seen && !/^  / { exit } seen' "$1"
+}
+
+# Whether an error is a false fact: its text without the folder of the edited crate, the log.
 is_false_fact() {
     case $1 in
-    'proofs/'*': error: `'*) ! grep -q -E "$MISSING" <<<"$1" ;;
+    'proofs/'*': error: `'*) ! grep -q -E "$MISSING" <<<"$1" && ! below_first_error "$2" | grep -q -E "$MISSING_BELOW" ;;
     'note: src/'*'it is not proved that'*) true ;;
     *) false ;;
     esac
@@ -54,7 +60,7 @@ judge() {
     fi
     error=$(first_error "$folder/.log" | sed "s|[^ ]*/$folder/||" | cut -c 1-400)
     name=$(declaration "$folder" "$error")
-    if ! is_false_fact "$error" || is_admitted "$error" "$folder/.log"; then
+    if ! is_false_fact "$error" "$folder/.log" || is_admitted "$error" "$folder/.log"; then
         fail "must-fail $1/$2 is refused at a false fact: $error"
     elif ! is_named "$edit" "$name"; then
         fail "must-fail $1/$2 is refused where its second line says: $error"
