@@ -1,6 +1,6 @@
 /* Speed of the proved cipher's two engines beside OpenSSL's DES, in one run on one core: single DES under one key and under a key for
    each block, a signature of 39 bytes, and two-key triple DES in CBC; before that the same results on random texts. Exit status 1 if a
-   result differs. */
+   result differs. With EARLIER defined, the engines of an earlier cipher_c, whose names begin with earlier_, take part too. */
 
 #define OPENSSL_SUPPRESS_DEPRECATED
 #define _GNU_SOURCE
@@ -13,18 +13,49 @@
 #include <string.h>
 #include <time.h>
 
+#ifdef EARLIER
+enum { PLAIN, QUICK, EARLIER_PLAIN, EARLIER_QUICK, OPENSSL, ENGINES };
+static const char *names[ENGINES] = {"plain", "quick", "plain, earlier", "quick, earlier", "OpenSSL"};
+#else
 enum { PLAIN, QUICK, OPENSSL, ENGINES };
+static const char *names[ENGINES] = {"plain", "quick", "OpenSSL"};
+#endif
 enum { BLOCK = 8, KEY = 16, MOST_COMPARED = 300, COMPARISONS = 500, SIGNED = 39, TEXT = 64 * 1024, ROUNDS = 200, PLAIN_EACH = 10 };
 
-static const char *names[ENGINES] = {"plain", "quick", "OpenSSL"};
-
 /* The library cipher_c, proved in Rattle; its engines are 0 and 1. */
-size_t cipher_cbc(uint32_t engine, const uint8_t *key, size_t key_len, const uint8_t *start, size_t start_len, uint8_t *text,
-                  size_t text_len);
-size_t cipher_signature(uint32_t engine, const uint8_t *key, size_t key_len, const uint8_t *start, size_t start_len, const uint8_t *text,
-                        size_t text_len, uint8_t *out, size_t out_len);
-size_t cipher_des(uint32_t engine, const uint8_t *key, size_t key_len, uint8_t *text, size_t text_len);
-size_t cipher_des_each(uint32_t engine, const uint8_t *keys, size_t keys_len, uint8_t *text, size_t text_len);
+typedef size_t cbc_call(uint32_t engine, const uint8_t *key, size_t key_len, const uint8_t *start, size_t start_len, uint8_t *text,
+                        size_t text_len);
+typedef size_t signature_call(uint32_t engine, const uint8_t *key, size_t key_len, const uint8_t *start, size_t start_len,
+                              const uint8_t *text, size_t text_len, uint8_t *out, size_t out_len);
+typedef size_t des_call(uint32_t engine, const uint8_t *key, size_t key_len, uint8_t *text, size_t text_len);
+
+struct library {
+    cbc_call *cbc;
+    signature_call *signature;
+    des_call *des, *des_each;
+};
+
+cbc_call cipher_cbc, earlier_cipher_cbc;
+signature_call cipher_signature, earlier_cipher_signature;
+des_call cipher_des, cipher_des_each, earlier_cipher_des, earlier_cipher_des_each;
+
+static const struct library libraries[] = {
+    {cipher_cbc, cipher_signature, cipher_des, cipher_des_each},
+#ifdef EARLIER
+    {earlier_cipher_cbc, earlier_cipher_signature, earlier_cipher_des, earlier_cipher_des_each},
+#endif
+};
+
+/* An engine's library, and its number there. */
+static const struct library *library_of(int engine)
+{
+    return &libraries[engine / 2];
+}
+
+static uint32_t number_of(int engine)
+{
+    return (uint32_t)engine % 2;
+}
 
 /* Random bytes by xorshift64 from a fixed seed. */
 static void fill(uint8_t *bytes, size_t length)
@@ -56,7 +87,7 @@ static void one_key(int engine, uint8_t *text, size_t length)
     DES_key_schedule schedule;
 
     if (engine != OPENSSL) {
-        cipher_des((uint32_t)engine, keys, BLOCK, text, length);
+        library_of(engine)->des(number_of(engine), keys, BLOCK, text, length);
         return;
     }
     openssl_key(keys, &schedule);
@@ -69,7 +100,7 @@ static void key_each(int engine, uint8_t *text, size_t length)
     DES_key_schedule schedule;
 
     if (engine != OPENSSL) {
-        cipher_des_each((uint32_t)engine, keys, length / BLOCK * BLOCK, text, length);
+        library_of(engine)->des_each(number_of(engine), keys, length / BLOCK * BLOCK, text, length);
         return;
     }
     for (size_t i = 0; i + BLOCK <= length; i += BLOCK) {
@@ -84,7 +115,7 @@ static void cbc_under(int engine, const uint8_t *key, const uint8_t *from, uint8
     DES_key_schedule first, second;
 
     if (engine != OPENSSL) {
-        cipher_cbc((uint32_t)engine, key, KEY, from, BLOCK, text, length);
+        library_of(engine)->cbc(number_of(engine), key, KEY, from, BLOCK, text, length);
         return;
     }
     memcpy(chain, from, BLOCK);
@@ -105,7 +136,7 @@ static void signature(int engine, const uint8_t *key, const uint8_t *from, const
     size_t whole = (length / BLOCK + 1) * BLOCK;
 
     if (engine != OPENSSL) {
-        cipher_signature((uint32_t)engine, key, KEY, from, BLOCK, text, length, out, BLOCK);
+        library_of(engine)->signature(number_of(engine), key, KEY, from, BLOCK, text, length, out, BLOCK);
         return;
     }
     memcpy(padded, text, length);
@@ -158,7 +189,7 @@ static void compare(size_t length)
     fill(keys, sizeof keys);
     fill(start, BLOCK);
     fill(text, length);
-    for (int engine = PLAIN; engine <= QUICK; engine++) {
+    for (int engine = 0; engine < OPENSSL; engine++) {
         for (int m = 0; m < MEASURES; m++) {
             memcpy(ours, text, length);
             memcpy(theirs, text, length);
@@ -182,7 +213,7 @@ static double seconds(void)
     return (double)now.tv_sec + (double)now.tv_nsec / 1e9;
 }
 
-/* Operations per second of each engine, the best of many rounds in which they take turns; the plain engine takes part in some. */
+/* Operations per second of each engine, the best of many rounds in which they take turns; plain engines take part in some. */
 static void speeds(int m, double best[ENGINES])
 {
     static uint8_t text[TEXT], work[TEXT];
@@ -192,7 +223,7 @@ static void speeds(int m, double best[ENGINES])
         best[engine] = 0;
     for (int round = 0; round < ROUNDS; round++) {
         for (int engine = 0; engine < ENGINES; engine++) {
-            if (engine == PLAIN && round % PLAIN_EACH != 0)
+            if (engine != OPENSSL && number_of(engine) == PLAIN && round % PLAIN_EACH != 0)
                 continue;
             memcpy(work, text, TEXT);
             double before = seconds();
@@ -219,7 +250,7 @@ int main(void)
     stay();
     for (size_t i = 0; i < COMPARISONS; i++)
         compare(i % (MOST_COMPARED + 1));
-    printf("%d random texts of 0 to %d bytes: both engines give what OpenSSL gives\n", COMPARISONS, MOST_COMPARED);
+    printf("%d random texts of 0 to %d bytes: all engines give what OpenSSL gives\n", COMPARISONS, MOST_COMPARED);
     printf("a second, best of %d rounds in which the engines take turns on one core; the ratio is to OpenSSL's speed\n", ROUNDS);
     for (int m = 0; m < MEASURES; m++) {
         double best[ENGINES];
@@ -227,7 +258,7 @@ int main(void)
         speeds(m, best);
         printf("%s\n", measures[m].name);
         for (int engine = 0; engine < ENGINES; engine++)
-            printf("    %-8s %12.0f   ratio %.4f\n", names[engine], best[engine], best[engine] / best[OPENSSL]);
+            printf("    %-14s %12.0f   ratio %.4f\n", names[engine], best[engine], best[engine] / best[OPENSSL]);
     }
     return 0;
 }

@@ -1,8 +1,8 @@
-// Lists of bits: bytes to bits, bits to numbers and bytes, and addition modulo 2.
+// Lists of bits: bytes to bits, bits to numbers, and addition modulo 2.
 ghost use mathlib.Core.Path.{_≡_};
 ghost use Prim.Native.Nat.{_/_, _%_, _^_, _<_, _≤_};
 ghost use lib.ListN.{length};
-ghost use Rattle.des_spec.specs.Bits.{Bits, binaries, number, bitsOf, bytesOf, xor};
+ghost use Rattle.des_spec.specs.Bits.{Bits, binaries, number, bitsOf, xor};
 
 // The bit of weight 2 ^ k.
 fn bit(v: u8, k: usize) -> u8
@@ -50,21 +50,6 @@ pub fn number(bits: &[u8]) -> u8
         i += 1;
     }
     value
-}
-
-// The bytes of 64 bits.
-pub fn bytes_of(bits: [u8; 64]) -> [u8; 8]
-    requires { ⌜ Bits bits ⌝ }
-    ensures { λ r. ⌜ r ≡ bytesOf 8 bits ⌝ }
-{
-    let mut out = [0u8; 8];
-    let mut i: usize = 0;
-    while i < 8 {
-        let from = 8 * i;
-        out[i] = number(&bits[from..from + 8]);
-        i += 1;
-    }
-    out
 }
 
 // Stores the sum modulo 2 of each bit of a and of b.

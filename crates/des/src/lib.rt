@@ -2,6 +2,7 @@
 mod bits;
 mod permutations;
 mod rounds;
+mod rows;
 mod schedule;
 mod selection;
 mod tables;
@@ -21,13 +22,16 @@ pub fn round_keys(key: [u8; 8], decipher: bool) -> [[u8; 48]; 16]
     keys
 }
 
-// A block under round keys.
+// A block under round keys: the initial permutation, sixteen rounds from its two halves on, the inverse permutation.
 pub fn block_under(keys: [[u8; 48]; 16], block: [u8; 8]) -> [u8; 8]
     ensures { λ r. ⌜ r ≡ blockUnder keys block ⌝ }
 {
-    let bits = bits::bits_of(block);
-    let out = rounds::crypt(keys, bits);
-    bits::bytes_of(out)
+    let first = rows::initial(block);
+    let bits = bits::bits_of(first);
+    let left = rounds::half(bits, 0);
+    let right = rounds::half(bits, 32);
+    let last = rounds::rounds(keys, left, right);
+    rows::inverse(last)
 }
 
 // A block under a key.

@@ -1,13 +1,13 @@
-// The permutations and bit selections, one function to a table.
+// The permutation of the cipher function, and the bit selections, one function to a table.
 use super::tables;
 ghost use mathlib.Core.Path.{_≡_};
 ghost use lib.ListN.{length};
 ghost use Rattle.des_spec.specs.Bits.{Names};
-ghost use Rattle.des_spec.specs.Tables.{IP, IP⁻¹, E, P, PC1, PC2};
+ghost use Rattle.des_spec.specs.Tables.{E, P, PC1, PC2};
 ghost use Rattle.des_spec.specs.Des.{permute};
 
 // Stores the bits that a table names, counted from 1.
-fn permute(table: &[u8], bits: &[u8], out: &mut [u8])
+pub fn permute(table: &[u8], bits: &[u8], out: &mut [u8])
     requires { ⌜ (length (now table) ≡ length (now out)) × Names (now table) (length (now bits)) ⌝ }
     ensures { λ _. ⌜ now (out .exit) ≡ permute (now (table .entry)) (now (bits .entry)) ⌝ }
 {
@@ -16,24 +16,6 @@ fn permute(table: &[u8], bits: &[u8], out: &mut [u8])
         out[i] = bits[table[i] as usize - 1];
         i += 1;
     }
-}
-
-// The initial permutation.
-pub fn initial(block: [u8; 64]) -> [u8; 64]
-    ensures { λ r. ⌜ r ≡ permute IP block ⌝ }
-{
-    let mut out = [0u8; 64];
-    permute(&tables::IP, &block, &mut out);
-    out
-}
-
-// Its inverse.
-pub fn inverse(block: [u8; 64]) -> [u8; 64]
-    ensures { λ r. ⌜ r ≡ permute IP⁻¹ block ⌝ }
-{
-    let mut out = [0u8; 64];
-    permute(&tables::INVERSE, &block, &mut out);
-    out
 }
 
 // The bit selection of the cipher function.

@@ -1,15 +1,14 @@
-// A block of 64 bits under round keys: the initial permutation, sixteen rounds, the inverse permutation.
+// The sixteen rounds, on the two halves of a block of 64 bits.
 use super::bits;
-use super::permutations;
 use super::selection;
 ghost use mathlib.Core.Path.{_≡_};
 ghost use mathlib.Core.List.{_++_};
 ghost use Prim.Native.Nat.{_<_, _≤_};
 ghost use lib.ListN.{getD, take, drop};
-ghost use Rattle.des_spec.specs.Des.{rounds, crypt};
+ghost use Rattle.des_spec.specs.Des.{rounds};
 
 // The 32 bits from a place on.
-fn half(block: [u8; 64], from: usize) -> [u8; 32]
+pub fn half(block: [u8; 64], from: usize) -> [u8; 32]
     requires { ⌜ from ≤ 32 ⌝ }
     ensures { λ r. ⌜ r ≡ take 32 (drop from block) ⌝ }
 {
@@ -44,7 +43,7 @@ fn join(a: [u8; 32], b: [u8; 32]) -> [u8; 64]
 }
 
 // The sixteen rounds; the halves of the last are exchanged.
-fn rounds(keys: [[u8; 48]; 16], left: [u8; 32], right: [u8; 32]) -> [u8; 64]
+pub fn rounds(keys: [[u8; 48]; 16], left: [u8; 32], right: [u8; 32]) -> [u8; 64]
     ensures { λ r. ⌜ r ≡ rounds keys left right ⌝ }
 {
     let mut l = left;
@@ -59,15 +58,4 @@ fn rounds(keys: [[u8; 48]; 16], left: [u8; 32], right: [u8; 32]) -> [u8; 64]
         i += 1;
     }
     join(r, l)
-}
-
-// A block under round keys, in their order.
-pub fn crypt(keys: [[u8; 48]; 16], block: [u8; 64]) -> [u8; 64]
-    ensures { λ r. ⌜ r ≡ crypt keys block ⌝ }
-{
-    let x = permutations::initial(block);
-    let left = half(x, 0);
-    let right = half(x, 32);
-    let y = rounds(keys, left, right);
-    permutations::inverse(y)
 }

@@ -5,6 +5,7 @@ pub mod Elements
 pub mod Ranges
 pub mod Binary
 pub mod Permutations
+pub mod ByRows
 pub mod Sums
 pub mod Walk
 pub mod Texts
