@@ -5,7 +5,9 @@
    no pointer is NULL, each has its bytes, and no area that is written overlaps another.
 
    The functions keep nothing between calls: all of a card is in its memory, all of a session in its area. They may run in
-   several threads at once, on areas of their own. */
+   several threads at once, on areas of their own.
+
+   Memory that a purse with an older layout wrote reads as no card, and can be installed over. */
 
 #ifndef PURSE_H
 #define PURSE_H

@@ -47,21 +47,66 @@ host_replays() {
     done
 }
 
-# The stored image, a card's memory that an earlier purse left, reads as the card that the second program has after the same calls.
-host_image() {
+# The stored images are named after their magic. This layout's reads as the card that the second program has after the same calls. Those of
+# older layouts are no card, and neither is the second program's empty memory: the same calls print the same lines on both.
+host_images() {
+    local image magic older
+    older=$(sed -n 's/^olderMagics = //p' crates/memory/specs/Layout.antt | grep -o '0x[0-9A-F]*')
     cat "$stored/image-making.bench" "$stored/image-reading.bench" >"$work/image.bench"
     "$second" bench-run "$work/image.bench" >"$work/image-whole"
     "$second" bench-run "$stored/image-making.bench" >"$work/image-making"
-    tail -n "+$(($(wc -l <"$work/image-making") + 1))" "$work/image-whole" >"$work/image-expected"
-    "$work/host-replay" --from tests/images/D1.card "$stored/image-reading.bench" >"$work/image-got"
-    same "host: the stored image reads as its card" "$work/image-expected" "$work/image-got"
+    tail -n "+$(($(wc -l <"$work/image-making") + 1))" "$work/image-whole" >"$work/card-expected"
+    "$second" bench-run "$stored/image-no-card.bench" >"$work/no-card-expected"
+    "$work/host-replay" --from "$own_image" "$stored/image-reading.bench" >"$work/card-got"
+    same "host: $own_image reads as its card" "$work/card-expected" "$work/card-got"
+    [ -n "$older" ] || fail "host: the older layouts are named"
+    for magic in $older; do
+        image=tests/images/${magic#0x}.card
+        "$work/host-replay" --from "$image" "$stored/image-no-card.bench" >"$work/no-card-got"
+        same "host: $image, of an older layout, reads as no card" "$work/no-card-expected" "$work/no-card-got"
+    done
 }
 
+# The stored image with other bytes 25 in each slot of its log, which is full, and with void records: a card where docs/LAYOUT.md has it.
+host_key_sets() {
+    local image
+    mkdir "$work/records"
+    printf '\xB5\xC3\x02\x00\x02\xFF\xFF' >"$work/start.bench"
+    python3 - "$own_image" "$work/records" >"$work/records-expected" <<'PY'
+import sys
+
+memory, folder = open(sys.argv[1], "rb").read(), sys.argv[2]
+hot = 64 + 64 * (memory[1] % 2)
+size, newest, made = memory[19], memory[hot + 3], memory[hot + 4]
+assert made == size
+spare = (newest + 1) % (size + 1)
+
+
+def try_record(slot, name, record, is_card):
+    at = 2048 + 25 * slot
+    open(f"{folder}/{slot:02}-{name}.card", "wb").write(memory[:at] + record + memory[at + 25 :])
+    print(f"{slot:02}-{name}: S {0 if is_card or slot == spare else 2}")
+
+
+for slot in range(size + 1):
+    old = memory[2048 + 25 * slot :][:24]
+    for byte in (0x00, 0x01, 0x02, 0x03, 0x04, 0x11, 0xFF):
+        try_record(slot, f"{byte:02X}", old + bytes([byte]), 1 <= byte <= 3)
+    try_record(slot, "void", bytes(25), True)
+PY
+    for image in "$work"/records/*.card; do
+        echo "$(basename "$image" .card): $("$work/host-replay" --from "$image" "$work/start.bench")"
+    done >"$work/records-got"
+    same "host: the key set of a record, $(wc -l <"$work/records-got") memories" "$work/records-expected" "$work/records-got"
+}
+
+own_image=tests/images/$(sed -n 's/^magic = 0x//p' crates/memory/specs/Layout.antt).card
 if build_host; then
     pass "host: the C host is built"
     host_tests
     host_replays
-    host_image
+    host_images
+    host_key_sets
 else
     fail "host: the C host is built"
 fi

@@ -1,6 +1,6 @@
 #!/usr/bin/env bash
-# docs/LAYOUT.md has the numbers of the definitions: where blocks start, their sizes, the offsets and widths of their fields, and how many
-# stores each change has.
+# docs/LAYOUT.md has the numbers of the definitions: where blocks start, their sizes, the offsets and widths of their fields, how many stores
+# each change has, and the older layouts.
 . "$(dirname "$0")/lib.sh"
 
 # A line for each comparison: pass or fail, and its name.
@@ -91,6 +91,11 @@ cold = [tuple(map(number, row[:2])) for row in rows(f"Block C, from {at('coldAt'
 verdict("docs/LAYOUT.md: block C", cold, fields("cold"))
 ring = re.search(r"Slot j has the (\d+) bytes from ([\d,]+) \+ (\d+) j", page).groups()
 verdict("docs/LAYOUT.md: the ring", [number(n) for n in ring], [sizes["recordSize"], ring_at, sizes["recordSize"]])
+reads = re.findall(r"(wordAt|field|byteAt) l (\d+) ?(\d*)", body(log, "recordIn"))
+record = [(int(at), {"wordAt": 2, "byteAt": 1}.get(how) or int(n)) for how, at, n in reads]
+verdict("docs/LAYOUT.md: a record", [tuple(map(number, row[:2])) for row in rows("The ring")], record)
+older = re.findall(r"0x(\w+)", body(layout, "olderMagics"))
+verdict("docs/LAYOUT.md: older layouts", [row[0] for row in rows("Which memories are cards")], older)
 
 counts = {
     "state": count("storeCount", logs=False, cold=False),

@@ -69,14 +69,16 @@ fn wrong_lines_are_named() {
     );
 }
 
+/// What a run without cuts prints.
+fn printed(file: &BenchFile) -> String {
+    let lines = lines(file, |_| ());
+    lines.iter().map(|line| format!("{line}\n")).collect()
+}
+
 /// A file and what a run without cuts prints for it.
 fn explained(file: &[u8]) -> String {
     let file = BenchFile::read(file);
-    let printed: String = lines(&file, |_| ())
-        .iter()
-        .map(|line| format!("{line}\n"))
-        .collect();
-    transcript(&file, &printed)
+    transcript(&file, &printed(&file))
 }
 
 #[test]
@@ -89,10 +91,34 @@ fn transcript_of_a_purchase() {
         "     03 maximum balance: 1388 = 5000\n",
         "     remaining transactions: 0063 = 99\n",
         "   S 0\n     the session is over\n",
+        "     key set 3, administration\n",
+        "     ten zeros: 00000000000000000000\n     key set 3, administration\n",
+        "CECF\n     by key set 1, debit\n21. READ RECORD",
+        "CECF\n     by key set 2, credit\n",
     ] {
         assert!(text.contains(part), "{part}");
     }
     assert!(!text.contains("WRONG") && !text.contains("refused"));
+}
+
+/// A set that no purse has is named by its number, and a record with another set is wrong.
+#[test]
+fn transcript_of_other_key_sets() {
+    let random = "command FFFF 0000000000000000";
+    let text = format!("{random} 8050C800 08 0102030405060708\n{random} 84D80000 38");
+    let zeros = "00".repeat(56);
+    let file = assemble(&format!("{text} {zeros}\n")).expect("a good text");
+    let text = explained(&file);
+    for part in ["     key set 200, unknown\n", "     key set 0, unknown\n"] {
+        assert!(text.contains(part), "{text}");
+    }
+    let file = BenchFile::read(&purchase::file());
+    for set in ["00", "02", "04", "FF"] {
+        let printed = printed(&file).replace("CECF019000", &format!("CECF{set}9000"));
+        let wrong = format!("CECF{set}9000\n     WRONG: 01 allows `C 0 00020978FEA2028A");
+        let text = transcript(&file, &printed);
+        assert!(text.contains(&wrong), "{text}");
+    }
 }
 
 #[test]

@@ -74,7 +74,7 @@ fn fresh_card_reads_as_zeros_with_full_tries() {
     for (tag, answer) in expected {
         assert_eq!(line(&mut scenario, &get_data(tag)), answer, "tag {tag:02X}");
     }
-    let void = format!("C 0 {}9000", "00".repeat(24));
+    let void = format!("C 0 {}9000", "00".repeat(25));
     assert_eq!(line(&mut scenario, &read_record(1)), void);
     assert_eq!(line(&mut scenario, &read_record(10)), void);
     assert_eq!(line(&mut scenario, &read_record(11)), "C 0 6A83");
@@ -267,7 +267,7 @@ fn log_wraps_around() {
         let number = 14 - place;
         let balance = number * (number + 1) / 2;
         let context = "C0C1C2C3C4C5C6C7C8C9CACBCCCDCECF";
-        let expected = format!("C 0 {number:04X}0978{number:04X}{balance:04X}{context}9000");
+        let expected = format!("C 0 {number:04X}0978{number:04X}{balance:04X}{context}039000");
         assert_eq!(line(&mut scenario, &read_record(place as u8)), expected);
     }
 }

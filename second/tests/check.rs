@@ -11,7 +11,7 @@ use second::bench::stored::{cuts, fixture::*};
 use second::purse::card::Set;
 use second::purse::session::{Kind, Level};
 use second::random::Random;
-use second::terminal::get_data;
+use second::terminal::{get_data, read_record};
 use support::simulated::{print, Style};
 
 /// A file and the lines of a run without cuts.
@@ -88,6 +88,32 @@ fn cut_complete() {
     );
     for half in HALF {
         assert_eq!(run.ending(&["C 7", "S 0", &tight(half)]), Err(1), "{half}");
+    }
+}
+
+/// The record of a cut COMPLETE is void, or has the channel's set.
+#[test]
+fn key_set_of_a_cut_record() {
+    let mut scenario = at_work(Set::Credit);
+    begin(&mut scenario, Kind::Cash, 10);
+    scenario.limit = 20;
+    complete(&mut scenario);
+    scenario.start();
+    scenario.select();
+    scenario.send(&read_record(1));
+    let run = Run::new(scenario);
+    let void = format!("C 0 {}9000", "00".repeat(25));
+    assert_eq!(run.ending(&["C 7", "S 0", &tight(BEFORE), &void]), Ok(()));
+    for (set, verdict) in [
+        ("02", Ok(())),
+        ("00", Err(1)),
+        ("01", Err(1)),
+        ("03", Err(1)),
+    ] {
+        let record = format!("C 0 00010978000A000AC0C1C2C3C4C5C6C7C8C9CACBCCCDCECF{set}9000");
+        let lines = ["C 7", "S 0", &tight(AFTER), &record];
+        assert_eq!(run.ending(&lines), verdict, "set {set}");
+        assert_eq!(run.ending(&lines[1..]), verdict, "set {set}, not cut");
     }
 }
 

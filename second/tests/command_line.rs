@@ -127,6 +127,7 @@ fn stored_files() {
         "cuts",
         "example",
         "image-making",
+        "image-no-card",
         "image-reading",
         "purchase",
         "records",

@@ -8,7 +8,7 @@ use second::bench::coverage::{Coverage, REACHABLE};
 use second::bench::file::{BenchFile, Call, NO_LIMIT};
 use second::bench::line::Line;
 use second::bench::run::{lines, Bench};
-use second::bench::stored::{cuts, purchase, records, sessions};
+use second::bench::stored::{cuts, image, purchase, records, sessions};
 use second::bench::{malformed, random};
 use second::purse::{Refusal, Verdict};
 
@@ -231,18 +231,53 @@ fn stored_records_fill_buffers() {
     let lines = lines(&file, |_| ());
     let reads: Vec<String> = lines.iter().map(ToString::to_string).collect();
     let reads = &reads[reads.len() - usize::from(records::READS)..];
-    assert!(reads.iter().all(|line| line.len() == 4 + 2 * (24 + 2)));
+    assert!(reads.iter().all(|line| line.len() == 4 + 2 * (25 + 2)));
     assert!(reads.iter().all(|line| line.ends_with("9000")));
     let commands = usize::from(records::READS) * 19;
     assert!(commands > 65_536 && reads.concat().len() > 2 * commands);
 }
 
+/// The lines of a file, each a text.
+fn texts(file: &[u8]) -> Vec<String> {
+    let lines = lines(&BenchFile::read(file), |_| ());
+    lines.iter().map(ToString::to_string).collect()
+}
+
 /// 01's purchase: the log's newest amount reads FE A2.
 #[test]
 fn purchase_logs_a_debit() {
-    let file = BenchFile::read(&purchase::file());
-    let lines = lines(&file, |_| ());
-    let texts: Vec<String> = lines.iter().map(ToString::to_string).collect();
+    let texts = texts(&purchase::file());
     let newest = &texts[texts.len() - 2];
     assert!(newest.starts_with("C 0 00020978FEA2028A"), "{newest}");
+}
+
+/// The card of the image: a log of 10 with one debit under set 1 behind credits under set 2.
+#[test]
+fn image_of_a_card() {
+    let made = image::making();
+    let texts = texts(&[made.clone(), image::reading()].concat());
+    let read = &texts[BenchFile::read(&made).calls.len()..];
+    assert_eq!(read[0], "S 0");
+    let sets: Vec<&str> = read
+        .iter()
+        .filter(|line| line.len() == 4 + 2 * (25 + 2))
+        .map(|line| &line[4 + 2 * 24..][..2])
+        .collect();
+    let log = [["01"].as_slice(), &["02"; 9]].concat();
+    assert_eq!(sets, [log.as_slice(), &["02"]].concat());
+}
+
+/// Nothing is found before the installation; behind it the card is fresh.
+#[test]
+fn image_of_no_card() {
+    let texts = texts(&image::no_card());
+    let installed = texts.iter().position(|line| line == "I 0");
+    let (before, behind) = texts.split_at(installed.expect("an installation"));
+    let count = |text: &str| before.iter().filter(|line| *line == text).count();
+    assert_eq!((count("S 2"), count("I 6")), (2, 1));
+    assert_eq!(count("C 2"), before.len() - 3);
+    let fresh = ["S 0", "C 0 0000000000000000000000000000009000"];
+    assert_eq!(behind[1..3], fresh);
+    let void = format!("C 0 {}9000", "00".repeat(25));
+    assert_eq!(behind.iter().filter(|line| **line == void).count(), 10 + 9);
 }

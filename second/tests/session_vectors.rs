@@ -137,13 +137,13 @@ const SESSION: &[Exchange] = &[
         what: "READ RECORD 1",
         random: "0000000000000000",
         command: "00B20104",
-        response: "00020978FEA2028AC0C1C2C3C4C5C6C7C8C9CACBCCCDCECF9000",
+        response: "00020978FEA2028AC0C1C2C3C4C5C6C7C8C9CACBCCCDCECF019000",
     },
     Exchange {
         what: "READ RECORD 2",
         random: "0000000000000000",
         command: "00B20204",
-        response: "0001097803E803E8C0C1C2C3C4C5C6C7C8C9CACBCCCDCECF9000",
+        response: "0001097803E803E8C0C1C2C3C4C5C6C7C8C9CACBCCCDCECF029000",
     },
     Exchange {
         what: "INITIALIZE UPDATE 3",

@@ -34,7 +34,7 @@ pub record AsInstalled (f : Fixed) (a : Aid) (k : Keys) (c : Card) : Type 0 wher
   pub pin : c .head .pin .defined ≡ false
   -- and a log of the log's size, of which every record is void
   pub records : length (c .log) ≡ f .logsize
-  pub void : (i : ℕ) → i < f .logsize → recordBytes (getD (c .log) i void) ≡ zeros 24
+  pub void : (i : ℕ) → i < f .logsize → recordBytes (getD (c .log) i void) ≡ zeros 25
 
 -- the fresh card is so
 pub as-installed : (f : Fixed) (a : Aid) (k : Keys) → AsInstalled f a k (fresh f a k)

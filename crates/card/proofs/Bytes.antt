@@ -1,14 +1,15 @@
 -- The bytes of a log record and of three keys: how many, that each reads back as what it was made of, and which key lies where. Assumes nothing.
 use mathlib.Core.Path.{_≡_, refl, sym, ap, _∙_}
 use mathlib.Core.Bool.{true}
-use mathlib.Core.List.{List, [], _++_, append-assoc, append-nil}
+use mathlib.Core.List.{List, [], _∷_, _++_, append-assoc, append-nil}
 use Prim.Native.Nat.{ℕ, _+_, _<_}
 use native.Mathlib.Omega.{arith}
 use native.Mathlib.Nat.{zero-add}
-use lib.ListN.{length, length-append}
+use lib.ListN.{length, getD, length-append}
+use lib.Seq.{getD-drop}
 use Rattle.octets.specs.Bytes.{AreBytes, Octets, zeros, byteAt, field, allZero}
-use Rattle.octets.specs.Words.{word, wordAt}
-use Rattle.octets.proofs.Octets.{append-octets, word-octets, field-octets}
+use Rattle.octets.specs.Words.{word}
+use Rattle.octets.proofs.Octets.{append-octets, byte-octets, word-octets, field-octets}
 use Rattle.octets.proofs.Numbers.{word-at-below}
 use Rattle.octets.proofs.Parts.{field-at, field-part, part-between}
 use Rattle.octets.proofs.Equality.{zero-zeros, zeros-zero}
@@ -31,22 +32,33 @@ module _ (r : Record) (z : SizedRecord r) where
   record-octets =
       append-octets
       (append-octets
+      (append-octets
       (append-octets (append-octets (word-octets (r .number) (z .number)) (word-octets (r .currency) (z .currency))) (word-octets (r .amount) (z .amount)))
       (word-octets (r .balance) (z .balance)))
-      (z .context)
+      (z .context))
+      (byte-octets (z .keyset))
 
   context-read : field (recordBytes r) 8 16 ≡ r .context
   unfolding recordBytes
   context-read =
       let front = word (r .number) ++ word (r .currency) ++ word (r .amount) ++ word (r .balance) in
-      ap (λ (l : List ℕ). field l 8 16) (ap (λ (l : List ℕ). front ++ l) (sym (append-nil (r .context))))
-      ∙ field-between front (r .context) _ 8 16 refl (z .context .size)
+      field-between front (r .context) (r .keyset ∷ []) 8 16 refl (z .context .size)
+
+  keyset-read : byteAt (recordBytes r) 24 ≡ r .keyset
+  keyset-read = sym (getD-drop 24 (recordBytes r) 0 0) ∙ ap (λ (l : List ℕ). getD l 0 0) (record-places r (z .context .size) .keyset)
 
   pub record-read : recordIn (recordBytes r) ≡ r
   unfolding recordIn
   record-read =
-      let p = record-places r in
-      λ i. record { number = p .number i; currency = p .currency i; amount = p .amount i; balance = p .balance i; context = context-read i }
+      let p = record-places r (z .context .size) in
+      λ i. record {
+        number = p .number i;
+        currency = p .currency i;
+        amount = p .amount i;
+        balance = p .balance i;
+        context = context-read i;
+        keyset = keyset-read i;
+      }
 
 -- a record of zeros is the void one
 zero-read : recordIn (zeros recordSize) ≡ void
@@ -71,6 +83,7 @@ record-sized l f =
       amount = word-at-below l 4 f;
       balance = word-at-below l 6 f;
       context = field-octets l 8 16 f;
+      keyset = f 24;
     }
 
 -- ---- three keys

@@ -1,7 +1,7 @@
 -- The fresh card of what installation takes is proper. Assumes nothing.
 use mathlib.Core.Path.{_≡_, refl, sym, subst}
 use mathlib.Core.Bool.{true}
-use mathlib.Core.List.{List, [], _∷_}
+use mathlib.Core.Logic.{inl}
 use Prim.Native.Nat.{ℕ, zero, suc}
 use native.Mathlib.Omega.{arith}
 use borrow.Author.Tests.{le-leb}
@@ -16,7 +16,7 @@ use Rattle.card.specs.declared.head.Keys.{Keys}
 use Rattle.card.specs.declared.log.Record.{Record}
 use Rattle.card.specs.Log.{void}
 use Rattle.card.specs.Card.{noKeys, noKeySet, noParameters, noPurse, freshHead, fresh}
-use Rattle.card.specs.Proper.{fixedTests, aidOk, keysOk, bankOk, agentOk, unset, parameterTests, purseTests, pinOk, stateTests, properTests, SizedKeys, SizedPurse, SizedHead, SizedRecord, Proper}
+use Rattle.card.specs.Proper.{fixedTests, aidOk, keysOk, bankOk, agentOk, unset, parameterTests, purseTests, pinOk, stateTests, properTests, SizedKeys, SizedHead, SizedRecord, Proper}
 
 -- what installation asks of its data
 pub record Installable (fixed : Fixed) (aid : Aid) (admin : Keys) : Type 0 where
@@ -27,7 +27,14 @@ pub record Installable (fixed : Fixed) (aid : Aid) (admin : Keys) : Type 0 where
 
 pub void-sized : SizedRecord void
 void-sized =
-    record { number = omega arith; currency = omega arith; amount = omega arith; balance = omega arith; context = zeros-octets 16 }
+    record {
+      number = omega arith;
+      currency = omega arith;
+      amount = omega arith;
+      balance = omega arith;
+      context = zeros-octets 16;
+      keyset = omega arith;
+    }
 
 no-keys-sized : SizedKeys noKeys
 no-keys-sized = record { enc = zeros-octets 16; mac = zeros-octets 16; dek = zeros-octets 16 }
@@ -91,4 +98,5 @@ module _ (fixed : Fixed) (aid : Aid) (admin : Keys) (q : Installable fixed aid a
         records = length-replicate (fixed .logsize) void;
         each = λ k l. subst (λ (x : Record). SizedRecord x) (sym (same-void (fixed .logsize) k)) void-sized;
         unused = λ e k. same-void (fixed .logsize) k;
+        keysets = λ k. inl (same-void (fixed .logsize) k);
       }

@@ -1,13 +1,12 @@
 -- Records and changes in other words: a record's bytes by their places, the log after a record by its places, and what a change of block H alone
 -- leaves as it was. Assumes nothing.
-use mathlib.Core.Path.{_≡_, refl, ap, _∙_}
+use mathlib.Core.Path.{_≡_, refl}
 use mathlib.Core.Bool.{true, false}
 use mathlib.Core.List.{List, [], _∷_}
-use Prim.Native.Nat.{ℕ, zero, suc, _-_, _<_}
+use Prim.Native.Nat.{ℕ, suc, _-_, _<_}
 use native.Mathlib.Omega.{arith}
-use native.Mathlib.Nat.{not-suc-le-zero}
 use lib.ListN.{length, getD, take, drop}
-use lib.Seq.{getD-take, length-take-le}
+use lib.Seq.{getD-take, length-take-le, take-at, drop-at}
 use Rattle.octets.specs.Words.{wordAt}
 use Rattle.octets.proofs.Numbers.{word-read}
 use Rattle.card.specs.declared.head.Head.{Head}
@@ -16,23 +15,26 @@ use Rattle.card.specs.Log.{void, recordBytes}
 use Rattle.card.specs.Updates.{withState, withBalance, withPurse}
 use Rattle.card.specs.Changes.{purseAfter, headAfter, logAfter}
 
--- "transaction number, currency, amount (signed, a debit negative), new balance, 16 context bytes", by places
+-- "transaction number, currency, amount (signed, a debit negative), new balance, 16 context bytes", and "then one byte with the key set",
+-- by places
 pub record ByPlaces (r : Record) (l : List ℕ) : Type 0 where
   pub number : wordAt l 0 ≡ r .number
   pub currency : wordAt l 2 ≡ r .currency
   pub amount : wordAt l 4 ≡ r .amount
   pub balance : wordAt l 6 ≡ r .balance
-  pub context : drop 8 l ≡ r .context
+  pub context : take 16 (drop 8 l) ≡ r .context
+  pub keyset : drop 24 l ≡ r .keyset ∷ []
 
-pub record-places : (r : Record) → ByPlaces r (recordBytes r)
+pub record-places : (r : Record) → length (r .context) ≡ 16 → ByPlaces r (recordBytes r)
 unfolding recordBytes
-record-places r =
+record-places r n =
     record {
       number = word-read (r .number);
       currency = word-read (r .currency);
       amount = word-read (r .amount);
       balance = word-read (r .balance);
-      context = refl;
+      context = take-at (r .context) (r .keyset ∷ []) 16 n;
+      keyset = drop-at (r .context) (r .keyset ∷ []) 16 n;
     }
 
 -- "Record 1 is the newest; the oldest gives way", of a log that has a record at all

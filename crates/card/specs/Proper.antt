@@ -1,10 +1,12 @@
 -- Which cards there are: document 01, "Readable": "Every card within the ranges below, with tries, balance and number at most
 -- their maxima, parameters and log zero until personalized, set 3 defined, and sets 1 and 2 once personalized". The ranges are
--- those of "What the card keeps". Set 3 is defined by its type. Assumes nothing.
+-- those of "What the card keeps". Set 3 is defined by its type. Document 02, request 4, adds that a record of the log is void or has a
+-- key set from 01 to 03. Assumes nothing.
 use mathlib.Core.Path.{_≡_}
 use mathlib.Core.Bool.{Bool, true, false, not, _&&_, _||_}
 use mathlib.Core.List.{List, [], _∷_}
-use Prim.Native.Nat.{ℕ, _<_}
+use mathlib.Core.Logic.{_⊎_}
+use Prim.Native.Nat.{ℕ, _≤_, _<_}
 use lib.Dec.{leb, eqb}
 use lib.ListN.{length, getD, drop}
 use Rattle.octets.specs.Choice.{pick}
@@ -80,10 +82,16 @@ stateTests h =
 unfoldable pub properTests : Head → List Bool
 properTests h = allTrue (fixedTests (h .fixed)) ∷ allTrue (purseTests (h .purse)) ∷ pinOk (h .pin) ∷ allTrue (stateTests h) ∷ []
 
--- every record is void
-unfoldable pub allVoid : List Record → Bool
-allVoid [] = true
-allVoid (r ∷ log) = allZero (recordBytes r) && allVoid log
+-- ---- the tests of a log
+
+-- a record is void; once the card is personalized it may have "the key set that opened the channel, 01 to 03" instead
+unfoldable pub recordOk : Bool → Record → Bool
+recordOk personalized r = allZero (recordBytes r) || allTrue (personalized ∷ leb 1 (r .keyset) ∷ leb (r .keyset) 3 ∷ [])
+
+-- every record is such
+unfoldable pub logOk : Bool → List Record → Bool
+logOk personalized [] = true
+logOk personalized (r ∷ log) = recordOk personalized r && logOk personalized log
 
 -- ---- the sizes of values, which their structs have by their types
 
@@ -117,12 +125,20 @@ pub record SizedRecord (r : Record) : Type 0 where
   pub amount : r .amount < 65536
   pub balance : r .balance < 65536
   pub context : Octets 16 (r .context)
+  pub keyset : r .keyset < 256
 
 -- ---- a card that a memory may read as
 
+-- "the key set that opened the channel, 01 to 03"
+pub record HasKeySet (r : Record) : Type 0 where
+  pub least : 1 ≤ r .keyset
+  pub most : r .keyset ≤ 3
+
+-- the card
 pub record Proper (c : Card) : Type 0 where
   pub sized : SizedHead (c .head)
   pub tests : allTrue (properTests (c .head)) ≡ true
   pub records : length (c .log) ≡ c .head .fixed .logsize
   pub each : (k : ℕ) → k < length (c .log) → SizedRecord (getD (c .log) k void)
   pub unused : c .head .purse .parameters .personalized ≡ false → (k : ℕ) → getD (c .log) k void ≡ void
+  pub keysets : (k : ℕ) → (getD (c .log) k void ≡ void) ⊎ HasKeySet (getD (c .log) k void)

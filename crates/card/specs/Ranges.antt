@@ -1,6 +1,6 @@
 -- Which heads there are, by numbers and bytes: document 01, "Readable": "Every card within the ranges below, with tries, balance and
 -- number at most their maxima, parameters .. zero until personalized, set 3 defined, and sets 1 and 2 once personalized". The laws on
--- `Proper`'s tests are stated with it; the log's rule is a field of `Proper` itself, and set 3 is defined by its type. Assumes nothing.
+-- `Proper`'s tests are stated with it; the log's rules are fields of `Proper` itself, and set 3 is defined by its type. Assumes nothing.
 use mathlib.Core.Bool.{true, false}
 use mathlib.Core.Path.{_≡_}
 use Prim.Native.Nat.{ℕ, _-_, _≤_}

@@ -29,5 +29,6 @@ pub use keys::keys_in;
 pub use log::Record;
 pub use log::record_bytes;
 pub use log::record_in;
+pub use log::record_ok;
 pub use pin::well_formed;
 pub use proper::is_proper;

@@ -2,13 +2,14 @@
 -- INITIALIZE TRANSACTION answers 9000, and COMPLETE TRANSACTION in the session that it handed back answers 9000 and moves the amount.
 -- Assumes nothing.
 use mathlib.Core.Bool.{Bool, true, false, not, _&&_, _||_}
-use mathlib.Core.List.{List, [], _++_}
-use mathlib.Core.Path.{_≡_, refl, ap}
+use mathlib.Core.List.{List, [], _∷_, _++_}
+use mathlib.Core.Path.{_≡_, refl, sym, ap, subst}
 use Prim.Native.Nat.{ℕ, _+_, _-_, _%_, _≤_}
 use native.Mathlib.Omega.{arith}
 use borrow.Author.Tests.{le-ltb, le-leb, lt-leb, eqb-true, eqb-false, eq-eqb, ne-eqb}
 use lib.Dec.{ltb, eqb}
-use lib.ListN.{length}
+use lib.ListN.{length, take, drop}
+use lib.Seq.{take-at, drop-at}
 use Rattle.octets.specs.Choice.{pick, refuse}
 use Rattle.octets.specs.Bytes.{zeros}
 use Rattle.octets.specs.Words.{word}
@@ -24,13 +25,14 @@ use Rattle.card.specs.Log.{recordBytes}
 use Rattle.card.specs.Card.{Card}
 use Rattle.card.specs.Changes.{loggedChange, changed, headAfter, logAfter, after}
 use Rattle.session.specs.declared.Set.{Set}
+use Rattle.session.specs.declared.Set.the-variants.{Debit, Credit, Admin}
 use Rattle.session.specs.declared.Level.the-variants.{Rmac}
 use Rattle.session.specs.declared.Pending.{Pending}
 use Rattle.session.specs.declared.Pending.the-variants.{Debiting, Crediting}
 use Rattle.session.specs.declared.Session.{Session}
 use Rattle.session.specs.Transitions.{chained, answered}
 use Rattle.session.specs.Access.{access, hasRmac, isOpen}
-use Rattle.session.specs.Codes.{amountOf}
+use Rattle.session.specs.Codes.{setNumber, openedBy, amountOf}
 use Rattle.apdu.specs.declared.instructions.Signed.the-variants.{InitializeTransaction, CompleteTransaction}
 use Rattle.apdu.specs.Instructions.{instruction, of94}
 use Rattle.apdu.specs.Parameters.{are, signedParameters}
@@ -47,7 +49,7 @@ use Rattle.commands_spec.specs.InitializeTransaction.{lacks, noted, init
 use Rattle.commands_spec.specs.CompleteTransaction.{isNoted, isDebit, completeStatus, booked, logRecord, completeAnswer, completeTransactionOf}
 use Rattle.commands_spec.specs.Respond.{signedOf, respond, cardAfter}
 use Rattle.commands_spec.specs.Sent.{signedText, nextMac, initialization, completion}
-use Rattle.commands_spec.specs.Allowed.{Numbered, with-rmac, Entitled, Allows, Completed}
+use Rattle.commands_spec.specs.Allowed.{Numbered, with-rmac, Entitled, Allows, NamedBy, by-debit, by-credit, by-admin, Completed}
 use Rattle.commands_spec.proofs.Entitled.{entitled-passes}
 use Rattle.commands_spec.proofs.Reasons.{set-dek}
 use Rattle.commands_spec.proofs.Heads.{head-after}
@@ -114,14 +116,28 @@ noted-allowed h t set p1 currency amount a n l =
 
 -- ---- what a completed transaction leaves
 
--- the card after what is noted, a debit or a credit
-abbrev bookedCard : Card → Pending → List ℕ → Card
-bookedCard c p context =
+-- the card after what is noted, a debit or a credit, in a channel of a key set
+abbrev bookedCard : Card → Pending → List ℕ → Set → Card
+bookedCard c p context set =
     let next = booked (isDebit p) (amountOf p) (c .head) in
-    changed (loggedChange next (logRecord (isDebit p) (amountOf p) next context)) c
+    changed (loggedChange next (logRecord (isDebit p) (amountOf p) next context (openedBy (Rmac set)))) c
 
-module _ (c : Card) (p1 currency amount : ℕ) (context : List ℕ) (a : Allows (c .head) p1 currency amount) where
-  booked-kind : (b : Bool) → eqb p1 0x00 ≡ b → Completed c p1 amount context (bookedCard c (pick b (Debiting amount) (Crediting amount)) context)
+-- the byte that names the set
+pub named-by : (set : Set) → NamedBy set (openedBy (Rmac set) ∷ [])
+unfolding openedBy setNumber
+named-by Debit = by-debit
+named-by Credit = by-credit
+named-by Admin = by-admin
+
+module _ (c : Card) (p1 currency amount : ℕ) (context : List ℕ) (set : Set) (long : length context ≡ 16) (a : Allows (c .head) p1 currency amount) where
+  -- where context and key set lie
+  in-place : take 16 (context ++ openedBy (Rmac set) ∷ []) ≡ context
+  in-place = take-at context (openedBy (Rmac set) ∷ []) 16 long
+
+  behind : NamedBy set (drop 16 (context ++ openedBy (Rmac set) ∷ []))
+  behind = subst (NamedBy set) (sym (drop-at context (openedBy (Rmac set) ∷ []) 16 long)) (named-by set)
+
+  booked-kind : (b : Bool) → eqb p1 0x00 ≡ b → Completed c p1 amount context set (bookedCard c (pick b (Debiting amount) (Crediting amount)) context set)
   unfolding recordBytes booked isDebit amountOf newBalance changed headAfter logAfter withState withBalance withPurse logRecord logAmount
   booked-kind true t =
       let l = a .debits (eqb-true p1 0x00 t) in
@@ -131,14 +147,14 @@ module _ (c : Card) (p1 currency amount : ℕ) (context : List ℕ) (a : Allows 
       record {
         balance = record { debit = λ z. omega (arith, l .1); credit = λ z. absurd (z (eqb-true p1 0x00 t)) };
         number = refl;
-        logged = record { number = word-read _; currency = word-read _; debit = λ z. omega (arith, word-read ((0x10000 - amount) % 0x10000)); credit = λ z. absurd (z (eqb-true p1 0x00 t)); balance = word-read _; context = refl };
+        logged = record { number = word-read _; currency = word-read _; debit = λ z. omega (arith, word-read ((0x10000 - amount) % 0x10000)); credit = λ z. absurd (z (eqb-true p1 0x00 t)); balance = word-read _; context = in-place; keyset = behind };
         older = refl;
       }
   booked-kind false t =
       record {
         balance = record { debit = λ z. absurd (eqb-false p1 0x00 t z); credit = λ z. refl };
         number = refl;
-        logged = record { number = word-read _; currency = word-read _; debit = λ z. absurd (eqb-false p1 0x00 t z); credit = λ z. word-read _; balance = word-read _; context = refl };
+        logged = record { number = word-read _; currency = word-read _; debit = λ z. absurd (eqb-false p1 0x00 t z); credit = λ z. word-read _; balance = word-read _; context = in-place; keyset = behind };
         older = refl;
       }
 
@@ -221,11 +237,12 @@ module _ (c : Card) (s : Session) (set : Set) (p1 currency amount : ℕ) (le ran
     complete-granted = rw (complete-reached, complete-judged)
 
     -- and moves the amount, with its record
-    pub complete-moves : Completed c p1 amount context (cardAfter c handed (completion handed context le′) random′)
+    pub complete-moves : Completed c p1 amount context set (cardAfter c handed (completion handed context le′) random′)
     unfolding completeTransactionOf decided cardAfter commitsOf changesOf after withState noted
     complete-moves =
         let n : next .pending ≡ noted p1 amount = unfold chained answered in rw handed-is in
-        rw (complete-reached, complete-judged, n) (booked-kind c p1 currency amount context a (eqb p1 0x00) refl)
+        let l : next .channel .level ≡ Rmac set = unfold chained answered in rw handed-is (o .level) in
+        rw (complete-reached, complete-judged, n, l) (booked-kind c p1 currency amount context set long a (eqb p1 0x00) refl)
 
     -- "Answer, all new: identifier, number, operational status, R-MAC"
     pub complete-answers :

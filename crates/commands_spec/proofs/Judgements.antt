@@ -112,6 +112,7 @@ initialize-passed h s p1 currency amount e =
 pub record Completes (h : Head) (s : Session) : Type 0 where
   pub personal : h .purse .parameters .personalized ≡ true
   pub pending : isNoted (s .pending) ≡ true
+  pub with-rmac : hasRmac (s .channel .level) ≡ true
   pub room : h .state .number < h .shared .maxnumber
   pub within : keepsLimits (isDebit (s .pending)) (amountOf (s .pending)) (h .purse .balance) (h .purse .parameters .maxbalance) ≡ true
 
@@ -127,6 +128,7 @@ complete-passed h s e =
     record {
       personal = not-false _ (p .0);
       pending = not-false _ (q .0);
+      with-rmac = not-false _ (r .0);
       room = leb-false (h .shared .maxnumber) (h .state .number) (t .0);
       within = not-false keeps (u .0);
     }

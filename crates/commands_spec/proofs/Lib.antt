@@ -24,6 +24,7 @@ pub mod Heads
 pub mod Sending
 pub mod Granted
 pub mod Authentication
+pub mod LogsKeySet
 pub mod Values
 pub mod PutsData
 pub mod PutsKey

@@ -11,11 +11,12 @@ use Rattle.card.specs.declared.head.Head.{Head}
 use Rattle.card.specs.declared.log.Record.{Record}
 use Rattle.card.specs.Card.{Card}
 use Rattle.card.specs.Changes.{loggedChange, changed, headAfter, logAfter, after}
+use Rattle.session.specs.declared.Level.{Level}
 use Rattle.session.specs.declared.Pending.{Pending}
 use Rattle.session.specs.declared.Pending.the-variants.{Nothing, Update, Debiting, Crediting}
 use Rattle.session.specs.declared.Session.{Session}
 use Rattle.session.specs.Transitions.{chained}
-use Rattle.session.specs.Codes.{amountOf}
+use Rattle.session.specs.Codes.{openedBy, amountOf}
 use Rattle.apdu.specs.declared.instructions.Signed.the-variants.{CompleteTransaction}
 use Rattle.apdu.specs.declared.instructions.Instruction.the-variants.{IsSigned}
 use Rattle.commands_spec.specs.declared.outcome.Outcome.{Outcome}
@@ -46,17 +47,17 @@ creditOf (Crediting amount) = amount
 abbrev pub bookedHead : Card → Pending → Head
 bookedHead c p = booked (isDebit p) (amountOf p) (c .head)
 
-abbrev pub bookedRecord : Card → Pending → List ℕ → Record
-bookedRecord c p context = logRecord (isDebit p) (amountOf p) (bookedHead c p) context
+abbrev pub bookedRecord : Card → Pending → List ℕ → Level → Record
+bookedRecord c p context l = logRecord (isDebit p) (amountOf p) (bookedHead c p) context (openedBy l)
 
--- what is pending moved, with the context that the command gives
-pub record Moved (c : Card) (p : Pending) (context : List ℕ) (d : Card) : Type 0 where
-  pub is : d ≡ changed (loggedChange (bookedHead c p) (bookedRecord c p context)) c
+-- what is pending moved, with the context that the command gives, in a channel
+pub record Moved (c : Card) (p : Pending) (context : List ℕ) (l : Level) (d : Card) : Type 0 where
+  pub is : d ≡ changed (loggedChange (bookedHead c p) (bookedRecord c p context l)) c
   pub number : d .head .state .number ≡ c .head .state .number + 1
   pub room : c .head .state .number < c .head .shared .maxnumber
   pub balance : d .head .purse .balance + debitOf p ≡ c .head .purse .balance + creditOf p
   pub limit : c .head .purse .balance ≤ c .head .purse .parameters .maxbalance → d .head .purse .balance ≤ d .head .purse .parameters .maxbalance
-  pub log : d .log ≡ bookedRecord c p context ∷ take (length (c .log) - 1) (c .log)
+  pub log : d .log ≡ bookedRecord c p context l ∷ take (length (c .log) - 1) (c .log)
 
 -- the sum, and the limit
 pub moved-balance : (p : Pending) (x m : ℕ) → isNoted p ≡ true → keepsLimits (isDebit p) (amountOf p) x m ≡ true
@@ -69,7 +70,7 @@ moved-balance (Crediting amount) x m n k = let h = leb-true (x + amount) m k in 
 
 module _ (c : Card) (s : Session) (command : List ℕ) where
   completed : (mac : List ℕ) → completeStatus (c .head) (chained mac s) ≡ 0x9000
-      → Moved c (s .pending) (part command 5 16) (afterwards c (completeTransactionOf (c .head) (chained mac s) (part command 5 16)))
+      → Moved c (s .pending) (part command 5 16) (s .channel .level) (afterwards c (completeTransactionOf (c .head) (chained mac s) (part command 5 16)))
   unfolding completeTransactionOf decided commitsOf changesOf after changed headAfter logAfter withState withBalance withPurse chained booked
   completed mac j =
       let f = complete-passed _ _ j in
@@ -87,7 +88,7 @@ module _ (c : Card) (s : Session) (command : List ℕ) where
 
 -- balance, number and log move together or not at all
 pub record Moves (c : Card) (s : Session) (command : List ℕ) (o : Outcome) (d : Card) : Type 0 where
-  pub moved : named command ≡ IsSigned CompleteTransaction → o .status ≡ 0x9000 → Moved c (s .pending) (part command 5 16) d
+  pub moved : named command ≡ IsSigned CompleteTransaction → o .status ≡ 0x9000 → Moved c (s .pending) (part command 5 16) (s .channel .level) d
   pub kept : (named command ≡ IsSigned CompleteTransaction → o .status ≡ 0x9000 → ⊥) → Kept c d
 
 -- of every command

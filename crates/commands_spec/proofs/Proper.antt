@@ -31,6 +31,7 @@ use Rattle.session.specs.declared.Set.the-variants.{Debit, Credit, Admin}
 use Rattle.session.specs.declared.Session.{Session}
 use Rattle.session.specs.Transitions.{ended, closed, flagged, chained}
 use Rattle.session.specs.Codes.{setOf, amountOf}
+use Rattle.session.proofs.WhoMay.{opened-range}
 use Rattle.session.proofs.Sizes.{Sized}
 use Rattle.channel.specs.Channel.{received}
 use Rattle.channel.proofs.Results.{length-received, bytes-received}
@@ -264,6 +265,7 @@ module _ (c : Card) (s : Session) (command random : List ℕ) (i : Sound c s com
         let k = complete-passed H t e in
         let debit = isDebit (t .pending) in
         let amount = amountOf (t .pending) in
+        let y = opened-range (t .channel .level) (k .with-rmac) in
         let r : H .state .number < H .shared .maxnumber = k .room in
         let q : H .shared .maxnumber < 65536 = i .proper .sized .maxnumber in
         let x : H .purse .parameters .maxbalance ≤ 32767 = f .maxbalance in
@@ -277,8 +279,9 @@ module _ (c : Card) (s : Session) (command random : List ℕ) (i : Sound c s com
                 amount = log-small debit amount (z .amount);
                 balance = omega arith;
                 context = a;
+                keyset = omega (arith, y .1);
               })
-              (k .personal),
+              (record { least = y .0; most = y .1 }) (k .personal),
         ))
         (refusal _ _)
 

@@ -1,10 +1,13 @@
 -- A changed card is proper where what is new keeps to the ranges. Assumes nothing.
 use mathlib.Core.Bool.{true, false, false≢true}
 use mathlib.Core.List.{_∷_}
+use mathlib.Core.Logic.{_⊎_, inl, inr}
 use mathlib.Core.Path.{_≡_, sym, subst, _∙_}
 use Prim.Native.Nat.{ℕ, zero, suc, _-_, _≤_, _<_}
+use native.Mathlib.Decide.{decLe}
+use native.Mathlib.Nat.{lt-of-not-le}
 use native.Mathlib.Omega.{arith}
-use lib.ListN.{length, getD, take}
+use lib.ListN.{length, getD, take, List·getD-eq-default}
 use lib.Seq.{getD-take, length-take-le}
 use Rattle.octets.specs.Bytes.{Octets}
 use Rattle.card.specs.declared.head.Pin.{Pin}
@@ -14,7 +17,7 @@ use Rattle.card.specs.declared.log.Record.{Record}
 use Rattle.card.specs.Log.{void}
 use Rattle.card.specs.Card.{Card}
 use Rattle.card.specs.Changes.{coldChange, changed, logAfter}
-use Rattle.card.specs.Proper.{bankOk, agentOk, pinOk, SizedHead, SizedRecord, Proper}
+use Rattle.card.specs.Proper.{bankOk, agentOk, pinOk, SizedHead, SizedRecord, HasKeySet, Proper}
 use Rattle.card.proofs.Ranges.{size-range}
 use Rattle.commands_spec.proofs.SameElse.{head-reached}
 use Rattle.commands_spec.proofs.Facts.{Facts, facts, facts-tests}
@@ -96,7 +99,14 @@ over-fine h n p s fine b k g =
 pub head-proper : (c : Card) (next : Head) → Proper c → Fine next → next .fixed ≡ c .head .fixed
     → (next .purse .parameters .personalized ≡ false → c .head .purse .parameters .personalized ≡ false) → Proper (record { head = next; log = c .log })
 head-proper c next p f e u =
-    record { sized = f .sized; tests = facts-tests next (f .facts); records = rw e (p .records); each = p .each; unused = λ q. p .unused (u q) }
+    record {
+      sized = f .sized;
+      tests = facts-tests next (f .facts);
+      records = rw e (p .records);
+      each = p .each;
+      unused = λ q. p .unused (u q);
+      keysets = p .keysets;
+    }
 
 -- block C written too
 pub cold-proper : (c : Card) (next : Head) → Proper c → Fine next → next .fixed ≡ c .head .fixed → next .purse .aid ≡ c .head .purse .aid
@@ -105,11 +115,18 @@ unfolding changed logAfter
 cold-proper c next p f e a u =
     subst (λ (h : Head). Proper (record { head = h; log = c .log })) (sym (head-reached (c .head) next e a)) (head-proper c next p f e u)
 
--- another head of a personalized card, and a record more
-pub logged-proper : (c : Card) (next : Head) (r : Record) → Proper c → Fine next → next .fixed ≡ c .head .fixed → SizedRecord r
+-- another head of a personalized card, and a record more, with its key set
+pub logged-proper : (c : Card) (next : Head) (r : Record) → Proper c → Fine next → next .fixed ≡ c .head .fixed → SizedRecord r → HasKeySet r
     → next .purse .parameters .personalized ≡ true → Proper (record { head = next; log = r ∷ take (length (c .log) - 1) (c .log) })
-logged-proper c next r p f e b t =
-    record { sized = f .sized; tests = facts-tests next (f .facts); records = rw e long; each = sized; unused = λ q. absurd (false≢true (sym q ∙ t)) }
+logged-proper c next r p f e b y t =
+    record {
+      sized = f .sized;
+      tests = facts-tests next (f .facts);
+      records = rw e long;
+      each = sized;
+      unused = λ q. absurd (false≢true (sym q ∙ t));
+      keysets = keyed;
+    }
   where
     n : ℕ
     n = length (c .log) - 1
@@ -129,6 +146,14 @@ logged-proper c next r p f e b t =
     sized (suc i) k =
         let x = rest in
         rw (getD-take n (c .log) i void (omega arith)) (p .each i (omega arith))
+
+    keyed : (k : ℕ) → (getD (r ∷ take n (c .log)) k void ≡ void) ⊎ HasKeySet (getD (r ∷ take n (c .log)) k void)
+    keyed zero = inr y
+    keyed (suc i) =
+        elim (decLe n i) [
+          | yes q ↦ inl (List·getD-eq-default (take n (c .log)) void (let x = rest in omega arith))
+          | no q ↦ rw (getD-take n (c .log) i void (lt-of-not-le q)) (p .keysets i)
+        ]
 
 -- ---- parameters
 

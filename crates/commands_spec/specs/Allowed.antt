@@ -2,7 +2,7 @@
 -- that 01 allows is never refused." Assumes nothing.
 use mathlib.Core.Bool.{Bool, true}
 use mathlib.Core.Path.{_≡_}
-use mathlib.Core.List.{List}
+use mathlib.Core.List.{List, [], _∷_}
 use Prim.Native.Nat.{ℕ, _+_, _-_, _≤_, _<_}
 use lib.ListN.{length, getD, take, drop}
 use Rattle.octets.specs.Words.{wordAt}
@@ -52,21 +52,28 @@ pub record MovedBy (p1 amount before after : ℕ) : Type 0 where
   pub debit : p1 ≡ 0x00 → after + amount ≡ before
   pub credit : (p1 ≡ 0x00 → ⊥) → after ≡ before + amount
 
+-- a byte that names a key set: "1 debit, 2 credit, 3 administration"
+pub data NamedBy : Set → List ℕ → Type 0 where
+  by-debit : NamedBy Debit (0x01 ∷ [])
+  by-credit : NamedBy Credit (0x02 ∷ [])
+  by-admin : NamedBy Admin (0x03 ∷ [])
+
 -- what its log record says, and where: "transaction number, currency, amount (signed, a debit negative), new balance, 16 context
--- bytes"; a negative number and its amount make 10000
-pub record Logged (p1 n own amount after : ℕ) (sent r : List ℕ) : Type 0 where
+-- bytes", "then one byte with the key set that opened the channel" (document 02, request 4); a negative number and its amount make 10000
+pub record Logged (p1 n own amount after : ℕ) (sent : List ℕ) (set : Set) (r : List ℕ) : Type 0 where
   pub number : wordAt r 0 ≡ n
   pub currency : wordAt r 2 ≡ own
   pub debit : p1 ≡ 0x00 → wordAt r 4 + amount ≡ 0x10000
   pub credit : (p1 ≡ 0x00 → ⊥) → wordAt r 4 ≡ amount
   pub balance : wordAt r 6 ≡ after
-  pub context : drop 8 r ≡ sent
+  pub context : take 16 (drop 8 r) ≡ sent
+  pub keyset : NamedBy set (drop 24 r)
 
--- what it leaves of a card: balance and number moved, and the record in front of the log, whose oldest gives way
-pub record Completed (c : Card) (p1 amount : ℕ) (context : List ℕ) (d : Card) : Type 0 where
+-- what it leaves of a card in a channel of a key set: balance and number moved, and the record in front of the log, whose oldest gives way
+pub record Completed (c : Card) (p1 amount : ℕ) (context : List ℕ) (set : Set) (d : Card) : Type 0 where
   pub balance : MovedBy p1 amount (c .head .purse .balance) (d .head .purse .balance)
   pub number : d .head .state .number ≡ c .head .state .number + 1
-  pub logged : Logged p1 (c .head .state .number + 1) (c .head .purse .parameters .currency) amount (d .head .purse .balance) context
+  pub logged : Logged p1 (c .head .state .number + 1) (c .head .purse .parameters .currency) amount (d .head .purse .balance) context set
       (recordBytes (getD (d .log) 0 void))
   pub older : drop 1 (d .log) ≡ take (length (c .log) - 1) (c .log)
 

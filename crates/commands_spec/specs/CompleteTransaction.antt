@@ -1,6 +1,7 @@
 -- COMPLETE TRANSACTION 94 46 00 00: "context; signed; personalized and directly after a successful INITIALIZE TRANSACTION, else
 -- 6985; level 11. Also 6985 if it would pass a balance or number limit. Moves balance, number (by one) and log together; the record
--- carries the new number. Answer, all new: identifier, number, operational status, R-MAC." Assumes nothing.
+-- carries the new number. Answer, all new: identifier, number, operational status, R-MAC." Document 02, request 4: the record ends in
+-- "the key set that opened the channel", the one in which the command runs. Assumes nothing.
 use mathlib.Core.Bool.{Bool, true, false, not}
 use mathlib.Core.List.{List, _++_}
 use Prim.Native.Nat.{ℕ, _+_}
@@ -15,7 +16,7 @@ use Rattle.session.specs.declared.Pending.the-variants.{Nothing, Update, Debiti
 use Rattle.session.specs.declared.Session.{Session}
 use Rattle.session.specs.Transitions.{ended, answered}
 use Rattle.session.specs.Access.{hasRmac}
-use Rattle.session.specs.Codes.{amountOf}
+use Rattle.session.specs.Codes.{openedBy, amountOf}
 use Rattle.channel.specs.Channel.{rmacOf}
 use Rattle.commands_spec.specs.declared.outcome.Commits.the-variants.{HotAndRecord}
 use Rattle.commands_spec.specs.declared.outcome.Outcome.{Outcome}
@@ -54,15 +55,17 @@ booked debit amount h =
     withState (record { number = h .state .number + 1; tries = h .state .tries })
     (withBalance (newBalance debit amount (h .purse .balance)) h)
 
--- "transaction number, currency, amount (signed, a debit negative), new balance, 16 context bytes", of the head afterwards
-unfoldable pub logRecord : Bool → ℕ → Head → List ℕ → Record
-logRecord debit amount h context =
+-- "transaction number, currency, amount (signed, a debit negative), new balance, 16 context bytes", of the head afterwards; "then one byte
+-- with the key set"
+unfoldable pub logRecord : Bool → ℕ → Head → List ℕ → ℕ → Record
+logRecord debit amount h context keyset =
     record {
       number = h .state .number;
       currency = h .purse .parameters .currency;
       amount = logAmount debit amount;
       balance = h .purse .balance;
       context = context;
+      keyset = keyset;
     }
 
 -- "Answer, all new: identifier, number, operational status"
@@ -82,7 +85,7 @@ completeTransactionOf h s context =
       status = 0x9000;
       commits = HotAndRecord;
       head = next;
-      logged = logRecord debit amount next context;
+      logged = logRecord debit amount next context (openedBy (s .channel .level));
       reply = holding (answer ++ mac ++ word 0x9000);
       session = answered Nothing mac s;
     })

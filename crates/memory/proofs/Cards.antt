@@ -1,7 +1,9 @@
--- Which memories read as a card, and as which: only proper cards are read, and memory without the magic byte is none. Assumes nothing.
+-- Which memories read as a card, and as which: only proper cards are read, and memory without the magic byte, or with that of an older
+-- layout, is none. Assumes nothing.
 use mathlib.Core.Path.{_≡_, refl, sym, ap, _∙_, subst}
-use mathlib.Core.Bool.{Bool, true, false, _||_, false≢true}
-use mathlib.Core.List.{List, [], _∷_, _++_}
+use mathlib.Core.Bool.{Bool, true, false, false≢true}
+use mathlib.Core.List.{List, _++_}
+use mathlib.Core.Logic.{_≢_, _⊎_, inl, inr}
 use mathlib.Core.Option.{none, some}
 use Prim.Native.Nat.{ℕ, zero, suc, _<_}
 use native.Mathlib.Omega.{arith}
@@ -10,17 +12,17 @@ use lib.Dec.{ltb, eqb}
 use lib.ListN.{length, getD, getD-replicate}
 use Rattle.octets.specs.Choice.{pick}
 use Rattle.octets.specs.Tests.{allTrue}
-use Rattle.octets.specs.Bytes.{AreBytes, zeros, byteAt, part, allZero}
-use Rattle.octets.proofs.Conditions.{and-both}
+use Rattle.octets.specs.Bytes.{AreBytes, zeros, byteAt, part}
 use Rattle.octets.proofs.Rules.{and-left, and-right}
 use Rattle.octets.proofs.Ranges.{part-bytes}
 use Rattle.card.specs.declared.log.Record.{Record}
-use Rattle.card.specs.Log.{recordSize, void, recordBytes, recordIn}
+use Rattle.card.specs.Log.{recordSize, void, recordIn}
 use Rattle.card.specs.Card.{Card}
-use Rattle.card.specs.Proper.{properTests, allVoid, SizedHead, SizedRecord, Proper}
-use Rattle.card.proofs.Bytes.{record-sized, void-read}
+use Rattle.card.specs.Proper.{properTests, logOk, SizedHead, SizedRecord, HasKeySet, Proper}
+use Rattle.card.proofs.Bytes.{record-sized}
 use Rattle.card.proofs.FreshCard.{void-sized}
-use Rattle.memory.specs.Layout.{memorySize, magic, fixedAt, coldAt, slot, slotAt}
+use Rattle.card.proofs.Logs.{Entry, log-told}
+use Rattle.memory.specs.Layout.{memorySize, magic, olderMagics, fixedAt, coldAt, slot, slotAt}
 use Rattle.memory.specs.Structs.{fixedSize, newestIn, filledIn, coldSize, headOf}
 use Rattle.memory.specs.Reading.{rootOf, fixedOf, hotOf, coldOf, headIn, sizeIn, recordAt, logIn, formedTests, readable, readCard}
 use Rattle.memory.proofs.RoundTrip.{head-sized}
@@ -43,16 +45,26 @@ read-readable m c e = go (readable m) refl e
 
 -- ---- no card
 
-pub read-none : (m : List ℕ) → byteAt m 0 ≡ 0 → readCard m ≡ none
+-- memory that starts with another byte
+pub read-none : (m : List ℕ) → byteAt m 0 ≢ magic → readCard m ≡ none
 unfolding readCard readable formedTests
 read-none m e =
-    let z : eqb (byteAt m 0) magic ≡ false = ne-eqb (byteAt m 0) magic (λ q. omega arith) in
+    let z : eqb (byteAt m 0) magic ≡ false = ne-eqb (byteAt m 0) magic e in
     let t : allTrue (formedTests m ++ properTests (headIn m)) ≡ false = and-right (eqb (length m) memorySize) _ (and-left _ _ z) in
     rw t
 
 -- memory of zeros is no card
 pub read-blank : readCard (zeros memorySize) ≡ none
-read-blank = read-none (zeros memorySize) (getD-replicate memorySize 0 0 0 (omega arith))
+read-blank = read-none (zeros memorySize) (λ e. let z : byteAt (zeros memorySize) 0 ≡ 0 = getD-replicate memorySize 0 0 0 (omega arith) in omega arith)
+
+-- no older layout has this one's magic
+pub magic-new : (i : ℕ) → i < length olderMagics → getD olderMagics i 0 ≢ magic
+magic-new zero h e = omega arith
+magic-new (suc i) h e = omega arith
+
+-- "Memory written before this change is read as no card"
+pub read-older : (m : List ℕ) (i : ℕ) → i < length olderMagics → byteAt m 0 ≡ getD olderMagics i 0 → readCard m ≡ none
+read-older m i h e = read-none m (λ q. magic-new i h (sym e ∙ q))
 
 -- ---- only proper cards
 
@@ -64,15 +76,14 @@ row-sized m k f = go (slotAt (slot (sizeIn m) (newestIn (hotOf m)) k)) (ltb k (f
     go at true = record-sized (part m at recordSize) (part-bytes m at recordSize f)
     go at false = void-sized
 
-void-at : (log : List Record) → allVoid log ≡ true → ((k : ℕ) → k < length log → SizedRecord (getD log k void)) → (k : ℕ) → getD log k void ≡ void
-unfolding allVoid
-void-at [] e l k = refl
-void-at (r ∷ log) e l zero = void-read r (l 0 (omega arith)) (and-both (allZero (recordBytes r)) (allVoid log) e .0)
-void-at (r ∷ log) e l (suc k) = void-at log (and-both (allZero (recordBytes r)) (allVoid log) e .1) (λ j q. l (suc j) (omega arith)) k
+-- an entry of a card that isn't personalized is void, of any card void or with a key set
+entry-void : (b : Bool) (r : Record) → Entry b r → b ≡ false → r ≡ void
+entry-void b r (inl e) n = e
+entry-void b r (inr h) n = absurd (false≢true (sym n ∙ h .0))
 
-other : (a b : Bool) → (a || b) ≡ true → a ≡ false → b ≡ true
-other true b e q = absurd (false≢true (sym q))
-other false b e q = e
+entry-keyset : (b : Bool) (r : Record) → Entry b r → (r ≡ void) ⊎ HasKeySet r
+entry-keyset b r (inl e) = inl e
+entry-keyset b r (inr h) = inr (h .1)
 
 module _ (m : List ℕ) (c : Card) (e : readCard m ≡ some c) where
   pub head-is : headIn m ≡ c .head
@@ -97,11 +108,12 @@ module _ (m : List ℕ) (c : Card) (e : readCard m ≡ some c) where
         let r : getD (logIn m) k void ≡ recordAt m k = row-at (sizeIn m) k (recordAt m) void (omega arith) in
         subst SizedRecord (sym r ∙ g) (row-sized m k f)
 
-    log-unused : c .head .purse .parameters .personalized ≡ false → allVoid (c .log) ≡ true
+    log-entry : (k : ℕ) → Entry (c .head .purse .parameters .personalized) (getD (c .log) k void)
     unfolding view headIn
-    log-unused q =
-        let u = reads m c e .formed .unused in
-        ap allVoid (sym log-is) ∙ other (headIn m .purse .parameters .personalized) (allVoid (logIn m)) u (ap (λ (h : _). h .purse .parameters .personalized) head-is ∙ q)
+    log-entry =
+        let t : logOk (c .head .purse .parameters .personalized) (c .log) ≡ true =
+        sym (λ i. logOk (head-is i .purse .parameters .personalized) (log-is i)) ∙ reads m c e .formed .log in
+        log-told (c .head .purse .parameters .personalized) (c .log) log-sized t
 
     whole-sized : SizedHead (headIn m)
     unfolding headIn
@@ -114,7 +126,8 @@ module _ (m : List ℕ) (c : Card) (e : readCard m ≡ some c) where
           tests = reads m c e .tests;
           records = log-long;
           each = log-sized;
-          unused = λ q. void-at (c .log) (log-unused q) log-sized;
+          unused = λ q k. entry-void _ _ (log-entry k) q;
+          keysets = λ k. entry-keyset _ _ (log-entry k);
         }
 
 -- only proper cards are read

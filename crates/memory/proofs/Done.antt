@@ -1,6 +1,6 @@
 -- A finished change reads as the changed card. Assumes nothing.
 use mathlib.Core.Path.{_≡_, refl, sym, ap, _∙_, subst}
-use mathlib.Core.Bool.{Bool, true, false, _||_}
+use mathlib.Core.Bool.{Bool, true, false}
 use mathlib.Core.List.{List, [], _∷_}
 use mathlib.Core.Option.{some}
 use Prim.Native.Nat.{ℕ, suc, _+_, _-_, _≤_, _<_}
@@ -11,17 +11,17 @@ use borrow.Author.Tests.{lt-ltb, le-ltb}
 use lib.Dec.{ltb}
 use lib.ListN.{length, getD, take}
 use Rattle.octets.specs.Choice.{pick}
-use Rattle.octets.specs.Bytes.{byteAt, part, allZero}
+use Rattle.octets.specs.Bytes.{byteAt, part}
 use Rattle.stores.specs.Stores.{applied}
 use Rattle.card.specs.declared.head.Head.{Head}
-use Rattle.card.specs.declared.log.Record.{Record}
 use Rattle.card.specs.declared.change.Change.{Change}
 use Rattle.card.specs.Log.{recordSize, void, recordBytes, recordIn}
 use Rattle.card.specs.Card.{Card}
 use Rattle.card.specs.Updates.{withState, withPurse, withBalance}
 use Rattle.card.specs.Changes.{purseAfter, headAfter, logAfter, changed}
-use Rattle.card.specs.Proper.{allVoid, SizedRecord, SizedHead, Proper}
-use Rattle.card.proofs.Bytes.{record-octets, record-read, void-zero}
+use Rattle.card.specs.Proper.{logOk, SizedRecord, SizedHead, Proper}
+use Rattle.card.proofs.Bytes.{record-octets, record-read}
+use Rattle.card.proofs.Logs.{log-proper}
 use Rattle.memory.specs.Layout.{memorySize, magic, hotAt, coldAt, nextRoot, slot, slotAt}
 use Rattle.memory.specs.Structs.{hotSize, hotBytes, newestIn, filledIn, coldSize, coldBytes, purseIn, headOf}
 use Rattle.memory.specs.Reading.{rootOf, fixedOf, hotOf, coldOf, sizeIn, headIn, recordAt, logIn, readCard}
@@ -33,20 +33,6 @@ use Rattle.memory.proofs.Cards.{head-is, log-is}
 use Rattle.memory.proofs.Live.{next-root-small, hot-next, cold-next, Bounded, sound, after-length, after-magic, after-root, fixed-stays, cold-stays, slot-stays, hot-new, cold-new, slot-new}
 
 -- ---- what a proper card says
-
-pub all-void : (log : List Record) → ((k : ℕ) → getD log k void ≡ void) → allVoid log ≡ true
-unfolding allVoid
-all-void [] f = refl
-all-void (r ∷ log) f =
-    let e : allZero (recordBytes r) ≡ true = ap (λ (x : Record). allZero (recordBytes x)) (f 0) ∙ void-zero in
-    rw e (all-void log (λ k. f (suc k)))
-
-pub proper-unused : (c : Card) → Proper c → (c .head .purse .parameters .personalized || allVoid (c .log)) ≡ true
-proper-unused c p = go (c .head .purse .parameters .personalized) refl
-  where
-    go : (b : Bool) → c .head .purse .parameters .personalized ≡ b → (b || allVoid (c .log)) ≡ true
-    go true e = refl
-    go false e = all-void (c .log) (p .unused e)
 
 module _ (x : Change) (c : Card) (p : Proper (changed x c)) where
   pub logged-sized : x .logs ≡ true → SizedRecord (x .logged)
@@ -248,7 +234,7 @@ module _ (x : Change) (m : List ℕ) (c : Card) (e : readCard m ≡ some c) (p :
         root = next-root-small (x .cold) r;
         newest = newest-after (x .logs);
         filled = filled-after (x .logs);
-        unused = (λ i. h i .purse .parameters .personalized || allVoid (l i)) ∙ proper-unused (changed x c) p;
+        log = (λ i. logOk (h i .purse .parameters .personalized) (l i)) ∙ log-proper (changed x c) p;
       })
       h l (p .tests)
 

@@ -1,7 +1,6 @@
 -- A whole card put into memory, and that every proper card has a memory that reads as it. Assumes nothing.
 use mathlib.Core.Path.{_≡_, refl, sym, ap, _∙_, subst}
 use mathlib.Core.Logic.{_≢_}
-use mathlib.Core.Bool.{_||_}
 use mathlib.Core.List.{List, [], _∷_, _++_, append-assoc}
 use mathlib.Core.Option.{some}
 use Prim.Native.Nat.{ℕ, suc, _+_, _-_, _*_, _≤_, _<_}
@@ -20,9 +19,10 @@ use Rattle.stores.proofs.Plans.{applied-length, applied-append, only-append, on
 use Rattle.stores.proofs.Parts.{byte-applied}
 use Rattle.card.specs.Log.{recordSize, void, recordBytes, recordIn}
 use Rattle.card.specs.Card.{Card}
-use Rattle.card.specs.Proper.{allVoid, SizedRecord, Proper}
+use Rattle.card.specs.Proper.{logOk, SizedRecord, Proper}
 use Rattle.card.proofs.Bytes.{record-octets, record-read}
 use Rattle.card.proofs.FreshCard.{void-sized}
+use Rattle.card.proofs.Logs.{log-proper}
 use Rattle.card.proofs.Ranges.{Size, size-range}
 use Rattle.memory.specs.Layout.{memorySize, magic, fixedAt, hotAt, coldAt, ringAt, slot, slotAt}
 use Rattle.memory.specs.Structs.{fixedSize, fixedBytes, hotSize, hotBytes, coldSize, coldBytes}
@@ -32,7 +32,6 @@ use Rattle.memory.proofs.RoundTrip.{fixed-length, fixed-read, hot-lengt
 use Rattle.memory.proofs.Ring.{slot-last, rows-ext, rows-list, joined-length, joined-at}
 use Rattle.memory.proofs.Seen.{Seen, view, sizeOf, logOf, headSeen, read-is, seen-of}
 use Rattle.memory.proofs.Live.{written}
-use Rattle.memory.proofs.Done.{proper-unused}
 
 -- ---- the plan of a whole card, its blocks of their sizes and a ring of at most 51 slots
 
@@ -188,7 +187,7 @@ module _ (c : Card) (p : Proper c) (newest filled : ℕ) (slots m : List ℕ) (s
         root = omega arith;
         newest = rw (newest-read, size-is) a;
         filled = rw (filled-read, size-is) b;
-        unused = (λ i. h i .purse .parameters .personalized || allVoid (l i)) ∙ proper-unused c p;
+        log = (λ i. logOk (h i .purse .parameters .personalized) (l i)) ∙ log-proper c p;
       })
       h l (p .tests)
 

@@ -1,33 +1,33 @@
 -- What is read in place, at an address of the whole memory, is what its part says. Assumes nothing.
 use mathlib.Core.Path.{_≡_, sym, ap, _∙_}
-use mathlib.Core.Bool.{Bool, true, false, _&&_, _||_, false≢true}
+use mathlib.Core.Bool.{Bool, true, false, _&&_, false≢true}
 use mathlib.Core.List.{List, [], _∷_}
+use mathlib.Core.Logic.{inl}
 use Prim.Native.Nat.{ℕ, _+_, _≤_, _<_}
 use native.Mathlib.Numerals.{add-one}
 use native.Mathlib.Omega.{arith}
 use native.Mathlib.Decide.{decLe}
-use native.Mathlib.Nat.{add-zero, lt-of-not-le}
+use native.Mathlib.Nat.{lt-of-not-le}
 use borrow.Author.Tests.{lt-ltb, le-ltb}
 use lib.Dec.{ltb, leb, eqb}
 use lib.ListN.{length, getD, drop, drop-of-length-le, List·getD-eq-default}
 use lib.Seq.{drop-cons, getD-drop}
 use Rattle.octets.specs.Tests.{allTrue}
-use Rattle.octets.specs.Bytes.{byteAt, part, allZero}
+use Rattle.octets.specs.Bytes.{byteAt, part}
 use Rattle.octets.proofs.Parts.{part-at}
 use Rattle.octets.proofs.Equality.{fails}
 use Rattle.octets.proofs.Rules.{and-left}
 use Rattle.stores.specs.Fields.{offset}
 use Rattle.card.specs.declared.head.Head.{Head}
-use Rattle.card.specs.declared.log.Record.{Record}
-use Rattle.card.specs.Log.{recordSize, void, recordBytes, recordIn}
-use Rattle.card.specs.Proper.{properTests, allVoid}
+use Rattle.card.specs.Log.{recordSize, void, recordIn}
+use Rattle.card.specs.Proper.{properTests, recordOk, logOk}
+use Rattle.card.proofs.Logs.{log-passes}
 use Rattle.card.proofs.Ranges.{all-append, all-left, all-right}
 use Rattle.memory.specs.declared.reading.Reading.{Reading}
 use Rattle.memory.specs.Layout.{memorySize, magic, fixedAt, hotAt, coldAt, slot, slotAt}
-use Rattle.memory.specs.Structs.{fixedWidths, fixedSize, fixedIn, hotSize, newestIn, filledIn, parametersSize, parametersIn, coldSize, purseIn, headOf}
+use Rattle.memory.specs.Structs.{fixedWidths, fixedSize, fixedIn, hotSize, newestIn, filledIn, parametersSize, parametersIn, coldWidths, coldSize, purseIn, headOf}
 use Rattle.memory.specs.Reading.{rootOf, hotOf, coldOf, headIn, sizeIn, recordAt, logIn, formedTests, readable, noCard, reading}
 use Rattle.memory.proofs.Ring.{length-rows, row-at}
-use Rattle.memory.proofs.Done.{all-void}
 
 module _ (m : List ℕ) where
   pub hot-in : (root at r i : ℕ) → i < hotSize → root ≡ byteAt m 1 → at ≡ hotAt root → r ≡ byteAt m (at + i) → r ≡ byteAt (hotOf m) i
@@ -38,14 +38,15 @@ module _ (m : List ℕ) where
   unfolding fixedIn
   size-in r e = e ∙ sym (part-at m fixedAt fixedSize (offset fixedWidths 1) (omega arith))
 
-  pub personalized-in : (root at r : ℕ) → root ≡ byteAt m 1 → at ≡ coldAt root → r ≡ byteAt m at
+  pub personalized-in : (root at r : ℕ) → root ≡ byteAt m 1 → at ≡ coldAt root → r ≡ byteAt m (at + offset coldWidths 2)
       → eqb r 1 ≡ headIn m .purse .parameters .personalized
   unfolding headIn headOf purseIn parametersIn
   personalized-in root at r a b e =
-      let q : r ≡ byteAt (coldOf m) 0 =
-      e ∙ ap (byteAt m) (b ∙ ap coldAt a) ∙ ap (byteAt m) (sym (add-zero (coldAt (rootOf m)))) ∙ sym (part-at m (coldAt (rootOf m)) coldSize 0 (omega arith))
+      let o = offset coldWidths 2 in
+      let q : r ≡ byteAt (coldOf m) (o + 0) =
+      e ∙ ap (λ (x : ℕ). byteAt m (x + o)) (b ∙ ap coldAt a) ∙ sym (part-at m (coldAt (rootOf m)) coldSize o (omega arith))
       in
-      ap (λ (x : ℕ). eqb x 1) (q ∙ sym (part-at (coldOf m) 0 parametersSize 0 (omega arith)))
+      ap (λ (x : ℕ). eqb x 1) (q ∙ sym (part-at (coldOf m) o parametersSize 0 (omega arith)))
 
   -- ---- a record
 
@@ -53,12 +54,19 @@ module _ (m : List ℕ) where
   unfolding recordAt
   record-void filled k e h = rw (← e, le-ltb k filled h)
 
-  pub record-in : (filled size newest j k : ℕ) (s : List ℕ) (r : Record) → filled ≡ filledIn (hotOf m) → k < filled → size ≡ sizeIn m
-      → newest ≡ newestIn (hotOf m) → j ≡ slot size newest k → s ≡ part m (slotAt j) recordSize → r ≡ recordIn s → r ≡ recordAt m k
-  unfolding recordAt
-  record-in filled size newest j k s r e h a b c f g = rw (← e, lt-ltb k filled h, ← a, ← b, ← c, ← f) g
+  -- the slot of a record
+  abbrev slotOf : ℕ → List ℕ
+  slotOf k = part m (slotAt (slot (sizeIn m) (newestIn (hotOf m)) k)) recordSize
 
-  -- ---- the log is void, record by record
+  pub slot-in : (size newest j k : ℕ) (s : List ℕ) → size ≡ sizeIn m → newest ≡ newestIn (hotOf m) → j ≡ slot size newest k
+      → s ≡ part m (slotAt j) recordSize → s ≡ slotOf k
+  slot-in size newest j k s a b c e = e ∙ ap (λ (x : ℕ). part m (slotAt x) recordSize) (c ∙ (λ i. slot (a i) (b i) k))
+
+  pub record-in : (filled k : ℕ) (s : List ℕ) → filled ≡ filledIn (hotOf m) → k < filled → s ≡ slotOf k → recordIn s ≡ recordAt m k
+  unfolding recordAt
+  record-in filled k s e h a = rw (← e, lt-ltb k filled h, ← a)
+
+  -- ---- the log, record by record
 
   log-length : length (logIn m) ≡ sizeIn m
   unfolding logIn
@@ -68,26 +76,27 @@ module _ (m : List ℕ) where
   unfolding logIn
   log-at k h = row-at (sizeIn m) k (recordAt m) void h
 
-  log-next : (k : ℕ) → k < sizeIn m → allVoid (drop k (logIn m)) ≡ (allZero (recordBytes (recordAt m k)) && allVoid (drop (k + 1) (logIn m)))
-  unfolding allVoid
-  log-next k h =
-      let l : k < length (logIn m) = (let e = log-length in omega arith) in
-      rw (add-one, drop-cons (logIn m) k void l, log-at k h)
+  module _ (b : Bool) where
+    log-next : (k : ℕ) → k < sizeIn m → logOk b (drop k (logIn m)) ≡ (recordOk b (recordAt m k) && logOk b (drop (k + 1) (logIn m)))
+    unfolding logOk
+    log-next k h =
+        let l : k < length (logIn m) = (let e = log-length in omega arith) in
+        rw (add-one, drop-cons (logIn m) k void l, log-at k h)
 
-  module _ (size k : ℕ) (z : Bool) (r : Record) (s : List ℕ) (e : size ≡ sizeIn m) (f : r ≡ recordAt m k) (g : s ≡ recordBytes r)
-      (h : z ≡ allZero s) where
-    zero-is : allZero (recordBytes (recordAt m k)) ≡ z
-    zero-is = ap (λ (x : Record). allZero (recordBytes x)) (sym f) ∙ ap allZero (sym g) ∙ sym h
+    module _ (size filled k : ℕ) (z : Bool) (s : List ℕ) (e : size ≡ sizeIn m) (f : filled ≡ filledIn (hotOf m)) (l : k < size) (n : k < filled)
+        (g : s ≡ slotOf k) (h : z ≡ recordOk b (recordIn s)) where
+      tested : recordOk b (recordAt m k) ≡ z
+      tested = sym (h ∙ ap (recordOk b) (record-in filled k s f n g))
 
-    pub void-fails : k < size → z ≡ false → allVoid (drop k (logIn m)) ≡ false
-    void-fails l q = log-next k (omega arith) ∙ and-left _ _ (zero-is ∙ q)
+      pub log-fails : z ≡ false → logOk b (drop k (logIn m)) ≡ false
+      log-fails q = log-next k (omega arith) ∙ and-left _ _ (tested ∙ q)
 
-    pub void-holds : k < size → z ≡ true → allVoid (drop k (logIn m)) ≡ allVoid (drop (k + 1) (logIn m))
-    void-holds l q = let u : allZero (recordBytes (recordAt m k)) ≡ true = zero-is ∙ q in log-next k (omega arith) ∙ rw u
+      pub log-holds : z ≡ true → logOk b (drop k (logIn m)) ≡ logOk b (drop (k + 1) (logIn m))
+      log-holds q = let u : recordOk b (recordAt m k) ≡ true = tested ∙ q in log-next k (omega arith) ∙ rw u
 
   -- past the records that were made all are void
-  pub void-rest : (filled k : ℕ) → filled ≡ filledIn (hotOf m) → filled ≤ k → allVoid (drop k (logIn m)) ≡ true
-  void-rest filled k e h = all-void (drop k (logIn m)) (λ j. getD-drop k (logIn m) j void ∙ row (k + j) (omega arith))
+  pub log-rest : (b : Bool) (filled k : ℕ) → filled ≡ filledIn (hotOf m) → filled ≤ k → logOk b (drop k (logIn m)) ≡ true
+  log-rest b filled k e h = log-passes b (drop k (logIn m)) (λ j. inl (getD-drop k (logIn m) j void ∙ row (k + j) (omega arith)))
     where
       row : (i : ℕ) → filled ≤ i → getD (logIn m) i void ≡ void
       row i l =
@@ -96,11 +105,16 @@ module _ (m : List ℕ) where
             | no q ↦ log-at i (lt-of-not-le q) ∙ sym (record-void filled i e l)
           ]
 
-  pub void-end : (size k : ℕ) → size ≡ sizeIn m → size ≤ k → allVoid (drop k (logIn m)) ≡ true
-  unfolding allVoid
-  void-end size k e h =
+  pub log-end : (b : Bool) (size k : ℕ) → size ≡ sizeIn m → size ≤ k → logOk b (drop k (logIn m)) ≡ true
+  unfolding logOk
+  log-end b size k e h =
       let l : length (logIn m) ≤ k = (let q = log-length in omega arith) in
       rw (drop-of-length-le (logIn m) l)
+
+  -- the test, by what the code found
+  pub log-is : (b r : Bool) → b ≡ headIn m .purse .parameters .personalized → logOk b (logIn m) ≡ r
+      → r ≡ logOk (headIn m .purse .parameters .personalized) (logIn m)
+  log-is b r e q = sym q ∙ ap (λ (x : Bool). logOk x (logIn m)) e
 
   -- ---- the whole
 
@@ -127,7 +141,7 @@ module _ (m : List ℕ) where
 
   -- the tests of memory's form, and the whole reading
   pub formed-by : (size first root newest filled : ℕ) (b r : Bool) → size ≡ sizeIn m → first ≡ byteAt m 0 → root ≡ byteAt m 1
-      → newest ≡ newestIn (hotOf m) → filled ≡ filledIn (hotOf m) → b ≡ (headIn m .purse .parameters .personalized || allVoid (logIn m))
+      → newest ≡ newestIn (hotOf m) → filled ≡ filledIn (hotOf m) → b ≡ logOk (headIn m .purse .parameters .personalized) (logIn m)
       → r ≡ allTrue (eqb (length m) memorySize ∷ eqb first magic ∷ ltb root 4 ∷ leb newest size ∷ leb filled size ∷ b ∷ []) → r ≡ allTrue (formedTests m)
   unfolding formedTests headIn headOf
   formed-by size first root newest filled b r a c d e f g h =

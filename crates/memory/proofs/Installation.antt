@@ -40,7 +40,7 @@ off-on body (suc L) m h a k =
     inr
     (rw (take-append-le L body (record { at = 0; value = magic } ∷ []))
     (read-none (applied (take L body) (set m 0 0))
-    (byte-applied (take L body) (set m 0 0) 0 (only-take (λ j. 0 ≢ j) L body a) ∙ getD-set-same m 0 0 0 h)))
+    (λ e. let z = byte-applied (take L body) (set m 0 0) 0 (only-take (λ j. 0 ≢ j) L body a) ∙ getD-set-same m 0 0 0 h in omega arith)))
 
 image-cut : (fixed hot cold slots : List ℕ) (L : ℕ) (m : List ℕ) → 0 < length m → L < length (imagePlan fixed hot cold slots)
     → (readCard (leaves (imagePlan fixed hot cold slots) L m) ≡ readCard m) ⊎ (readCard (leaves (imagePlan fixed hot cold slots) L m) ≡ none)

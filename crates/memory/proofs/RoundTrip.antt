@@ -211,24 +211,24 @@ module _ (s : State) (balance newest filled : ℕ) where
   unfolding hotBytes
   hot-octets n b t x y =
       append-octets (word-octets (s .number) n)
-      (append-octets (word-octets balance b) (append-octets (byte-octets t) (append-octets (byte-octets x) (append-octets (byte-octets y) none-octets))))
+      (append-octets (byte-octets t) (append-octets (byte-octets x) (append-octets (byte-octets y) (append-octets (word-octets balance b) none-octets))))
 
 -- ---- block C
 
 module _ (h : Head) (z : SizedHead h) where
   abbrev coldFields : List (List ℕ)
   coldFields =
-      parameterBytes (h .purse .parameters) ∷ keySetBytes (h .purse .debit) ∷ keySetBytes (h .purse .credit) ∷ sharedBytes (h .shared)
-      ∷ pinBytes (h .pin) ∷ []
+      sharedBytes (h .shared) ∷ pinBytes (h .pin) ∷ parameterBytes (h .purse .parameters) ∷ keySetBytes (h .purse .debit)
+      ∷ keySetBytes (h .purse .credit) ∷ []
 
   cold-fit : Fit coldWidths coldFields
   cold-fit = (
-    parameters-length (h .purse) (z .purse),
+    shared-length (h .shared) (z .admin),
     (
-      set-octets (h .purse .debit) (z .purse .debit) .size,
+      pin-octets (h .pin) (z .pin) .size,
       (
-        set-octets (h .purse .credit) (z .purse .credit) .size,
-        (shared-length (h .shared) (z .admin), (pin-octets (h .pin) (z .pin) .size, tt)),
+        parameters-length (h .purse) (z .purse),
+        (set-octets (h .purse .debit) (z .purse .debit) .size, (set-octets (h .purse .credit) (z .purse .credit) .size, tt)),
       ),
     ),
   )
@@ -240,10 +240,10 @@ module _ (h : Head) (z : SizedHead h) where
   pub cold-octets : Numbers h → Octets coldSize (coldBytes h)
   unfolding coldBytes
   cold-octets n =
-      append-octets (parameters-octets h (z .purse) n)
-      (append-octets (set-octets (h .purse .debit) (z .purse .debit))
-      (append-octets (set-octets (h .purse .credit) (z .purse .credit))
-      (append-octets (shared-octets (h .shared) (z .admin) (z .maxnumber)) (append-octets (pin-octets (h .pin) (z .pin)) none-octets))))
+      append-octets (shared-octets (h .shared) (z .admin) (z .maxnumber))
+      (append-octets (pin-octets (h .pin) (z .pin))
+      (append-octets (parameters-octets h (z .purse) n)
+      (append-octets (set-octets (h .purse .debit) (z .purse .debit)) (append-octets (set-octets (h .purse .credit) (z .purse .credit)) none-octets))))
 
   abbrev C : (k : ℕ) → k < 5 → part (joined coldFields) (offset coldWidths k) (getD coldWidths k 0) ≡ getD coldFields k []
   C k q = part-of coldWidths coldFields cold-fit k q
@@ -268,16 +268,16 @@ module _ (h : Head) (z : SizedHead h) where
   cold-read fixed hot =
       λ i. record {
         fixed = fixedIn fixed;
-        shared = (ap sharedIn (C 3 (omega arith)) ∙ shared-read (h .shared) (z .admin)) i;
+        shared = (ap sharedIn (C 0 (omega arith)) ∙ shared-read (h .shared) (z .admin)) i;
         purse =
             record {
               aid = aidIn (part fixed (offset fixedWidths 0) aidSize);
-              parameters = (ap parametersIn (C 0 (omega arith)) ∙ parameters-read (h .purse) (z .purse)) i;
-              debit = (ap keySetIn (C 1 (omega arith)) ∙ set-read (h .purse .debit) (z .purse .debit)) i;
-              credit = (ap keySetIn (C 2 (omega arith)) ∙ set-read (h .purse .credit) (z .purse .credit)) i;
+              parameters = (ap parametersIn (C 2 (omega arith)) ∙ parameters-read (h .purse) (z .purse)) i;
+              debit = (ap keySetIn (C 3 (omega arith)) ∙ set-read (h .purse .debit) (z .purse .debit)) i;
+              credit = (ap keySetIn (C 4 (omega arith)) ∙ set-read (h .purse .credit) (z .purse .credit)) i;
               balance = balanceIn hot;
             };
-        pin = (ap pinIn (C 4 (omega arith)) ∙ pin-read (h .pin) (z .pin)) i;
+        pin = (ap pinIn (C 1 (omega arith)) ∙ pin-read (h .pin) (z .pin)) i;
         state = stateIn hot;
       }
 
@@ -317,23 +317,23 @@ pub head-sized : (fixed hot cold : List ℕ) → AreBytes fixed → AreBytes col
 unfolding headOf purseIn parametersIn bankIn sharedIn pinIn
 head-sized fixed hot cold f c =
     let B : (k n : ℕ) → AreBytes (part cold (offset coldWidths k) n) = λ k n. part-bytes cold (offset coldWidths k) n c in
-    let p = part cold (offset coldWidths 0) parametersSize in
-    let d = part cold (offset coldWidths 3) sharedSize in
+    let p = part cold (offset coldWidths 2) parametersSize in
+    let d = part cold (offset coldWidths 0) sharedSize in
     record {
-      maxnumber = word-at-below d (offset sharedWidths 0) (B 3 sharedSize);
-      admin = keys-sized (part d (offset sharedWidths 1) keysSize) (part-bytes d (offset sharedWidths 1) keysSize (B 3 sharedSize));
+      maxnumber = word-at-below d (offset sharedWidths 0) (B 0 sharedSize);
+      admin = keys-sized (part d (offset sharedWidths 1) keysSize) (part-bytes d (offset sharedWidths 1) keysSize (B 0 sharedSize));
       purse =
           record {
             aid = aid-sized (part fixed (offset fixedWidths 0) aidSize) (part-bytes fixed (offset fixedWidths 0) aidSize f);
-            identifier = field-octets p (offset parameterWidths 1) 4 (B 0 parametersSize);
-            currency = word-at-below p (offset parameterWidths 2) (B 0 parametersSize);
+            identifier = field-octets p (offset parameterWidths 1) 4 (B 2 parametersSize);
+            currency = word-at-below p (offset parameterWidths 2) (B 2 parametersSize);
             bank =
                 field-octets (part p (offset parameterWidths 5) bankSize) (offset bankWidths 1) 16
-                (part-bytes p (offset parameterWidths 5) bankSize (B 0 parametersSize));
+                (part-bytes p (offset parameterWidths 5) bankSize (B 2 parametersSize));
             agent =
-                aid-sized (part p (offset parameterWidths 6) aidSize) (part-bytes p (offset parameterWidths 6) aidSize (B 0 parametersSize));
-            debit = set-sized (part cold (offset coldWidths 1) keySetSize) (B 1 keySetSize);
-            credit = set-sized (part cold (offset coldWidths 2) keySetSize) (B 2 keySetSize);
+                aid-sized (part p (offset parameterWidths 6) aidSize) (part-bytes p (offset parameterWidths 6) aidSize (B 2 parametersSize));
+            debit = set-sized (part cold (offset coldWidths 3) keySetSize) (B 3 keySetSize);
+            credit = set-sized (part cold (offset coldWidths 4) keySetSize) (B 4 keySetSize);
           };
-      pin = field-octets (part cold (offset coldWidths 4) pinSize) (offset pinWidths 1) 8 (B 4 pinSize);
+      pin = field-octets (part cold (offset coldWidths 1) pinSize) (offset pinWidths 1) 8 (B 1 pinSize);
     }

@@ -1,7 +1,7 @@
 -- What the reading sees of memory, and which addresses are dead: a store there changes nothing that is seen. Assumes nothing.
 use mathlib.Core.Path.{_≡_, refl, sym, ap, _∙_}
 use mathlib.Core.Logic.{_≢_}
-use mathlib.Core.Bool.{Bool, true, false, _||_}
+use mathlib.Core.Bool.{Bool, true, false}
 use mathlib.Core.List.{List, [], _∷_, _++_}
 use mathlib.Core.Option.{Option, none, some}
 use Prim.Native.Nat.{ℕ, _+_, _≤_, _<_}
@@ -20,7 +20,7 @@ use Rattle.card.specs.declared.head.Head.{Head}
 use Rattle.card.specs.declared.log.Record.{Record}
 use Rattle.card.specs.Log.{recordSize, void, recordIn}
 use Rattle.card.specs.Card.{Card}
-use Rattle.card.specs.Proper.{allVoid, properTests}
+use Rattle.card.specs.Proper.{logOk, properTests}
 use Rattle.card.proofs.Ranges.{all-append, all-left, all-right, Size, size-range}
 use Rattle.memory.specs.Layout.{memorySize, magic, fixedAt, hotAt, coldAt, slot, slotAt}
 use Rattle.memory.specs.Structs.{fixedSize, fixedIn, hotSize, newestIn, filledIn, coldSize, headOf}
@@ -59,7 +59,7 @@ testsOf s =
     eqb (s .size) memorySize ∷ eqb (s .magic) magic ∷ ltb (s .root) 4
     ∷ leb (newestIn (s .hot)) (sizeOf (s .fixed))
     ∷ leb (filledIn (s .hot)) (sizeOf (s .fixed))
-    ∷ (headSeen s .purse .parameters .personalized || allVoid (s .log)) ∷ []
+    ∷ logOk (headSeen s .purse .parameters .personalized) (s .log) ∷ []
 
 abbrev cardOf : Seen → Card
 cardOf s = record { head = headSeen s; log = s .log }
@@ -81,7 +81,7 @@ pub record Formed (s : Seen) : Type 0 where
   pub root : s .root < 4
   pub newest : newestIn (s .hot) ≤ sizeOf (s .fixed)
   pub filled : filledIn (s .hot) ≤ sizeOf (s .fixed)
-  pub unused : (headSeen s .purse .parameters .personalized || allVoid (s .log)) ≡ true
+  pub log : logOk (headSeen s .purse .parameters .personalized) (s .log) ≡ true
 
 -- it reads as the card c
 pub record ReadsAs (s : Seen) (c : Card) : Type 0 where
@@ -100,13 +100,13 @@ formed-of s e =
       root = ltb-true _ _ (t .1 .1 .0);
       newest = leb-true _ _ (t .1 .1 .1 .0);
       filled = leb-true _ _ (t .1 .1 .1 .1 .0);
-      unused = t .1 .1 .1 .1 .1 .0;
+      log = t .1 .1 .1 .1 .1 .0;
     }
 
 tests-of : (s : Seen) → Formed s → allTrue (testsOf s) ≡ true
 tests-of s f =
     all-true (testsOf s)
-    (eq-eqb _ _ (f .size), (eq-eqb _ _ (f .magic), (lt-ltb _ _ (f .root), (le-leb _ _ (f .newest), (le-leb _ _ (f .filled), (f .unused, tt))))))
+    (eq-eqb _ _ (f .size), (eq-eqb _ _ (f .magic), (lt-ltb _ _ (f .root), (le-leb _ _ (f .newest), (le-leb _ _ (f .filled), (f .log, tt))))))
 
 reads-of : (s : Seen) (c : Card) → decode s ≡ some c → ReadsAs s c
 unfolding decode headOf

@@ -3,6 +3,7 @@
 --   block C; 2,048 the ring of log records, one slot more than the log's size.
 -- Root bit 0 says which copy of H is live, bit 1 which copy of C. A change writes into what is not live, and turns the root last.
 use mathlib.Core.Bool.{Bool, cond}
+use mathlib.Core.List.{List, [], _∷_}
 use Prim.Native.Nat.{ℕ, suc, _+_, _-_, _*_, _/_, _%_}
 use lib.Dec.{leb}
 use Rattle.octets.specs.Choice.{pick}
@@ -14,7 +15,11 @@ memorySize = 4096
 
 -- the byte that names this layout
 abbrev pub magic : ℕ
-magic = 0xD1
+magic = 0xD2
+
+-- those that named layouts before it: D1 had records of 24 bytes
+abbrev pub olderMagics : List ℕ
+olderMagics = 0xD1 ∷ []
 
 -- where the root is
 abbrev pub rootAt : ℕ

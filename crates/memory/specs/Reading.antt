@@ -1,5 +1,6 @@
--- The card that memory reads as: document 01, "Readable". The reading depends on the 4,096 bytes alone. Assumes nothing.
-use mathlib.Core.Bool.{Bool, true, false, _||_}
+-- The card that memory reads as: document 01, "Readable", and document 02, request 4: "Memory written before this change is read as no
+-- card." The reading depends on the 4,096 bytes alone. Assumes nothing.
+use mathlib.Core.Bool.{Bool, true, false}
 use mathlib.Core.List.{List, [], _∷_, _++_}
 use mathlib.Core.Option.{Option, none, some}
 use Prim.Native.Nat.{ℕ, zero, suc}
@@ -12,7 +13,7 @@ use Rattle.card.specs.declared.head.Head.{Head}
 use Rattle.card.specs.declared.log.Record.{Record}
 use Rattle.card.specs.Log.{recordSize, void, recordIn}
 use Rattle.card.specs.Card.{Card, noFixed, noAid, noKeys, freshHead}
-use Rattle.card.specs.Proper.{properTests, allVoid}
+use Rattle.card.specs.Proper.{properTests, logOk}
 use Rattle.memory.specs.declared.reading.Reading.{Reading}
 use Rattle.memory.specs.Layout.{memorySize, magic, rootAt, fixedAt, hotAt, coldAt, slot, slotAt}
 use Rattle.memory.specs.Structs.{fixedSize, fixedIn, hotSize, newestIn, filledIn, coldSize, headOf}
@@ -63,13 +64,13 @@ logIn m = rows (sizeIn m) (recordAt m)
 
 -- ---- the reading
 
--- magic, root, newest slot and number of records are possible values; "log zero until personalized"
+-- magic, root, newest slot and number of records are possible values; the log passes its test
 unfoldable pub formedTests : List ℕ → List Bool
 formedTests m =
     eqb (length m) memorySize ∷ eqb (byteAt m 0) magic ∷ ltb (rootOf m) 4
     ∷ leb (newestIn (hotOf m)) (headIn m .fixed .logsize)
     ∷ leb (filledIn (hotOf m)) (headIn m .fixed .logsize)
-    ∷ (headIn m .purse .parameters .personalized || allVoid (logIn m)) ∷ []
+    ∷ logOk (headIn m .purse .parameters .personalized) (logIn m) ∷ []
 
 -- memory reads as a card
 unfoldable pub readable : List ℕ → Bool

@@ -165,40 +165,40 @@ fixedIn s = record { logsize = byteAt s (offset fixedWidths 1); maxtries = byteA
 
 -- ---- block H: what most changes change
 
--- number, balance, tries, the newest record's slot, how many records were made
+-- number, tries, the newest record's slot, how many records were made, the purse's balance
 abbrev pub hotWidths : List ℕ
-hotWidths = 2 ∷ 2 ∷ 1 ∷ 1 ∷ 1 ∷ []
+hotWidths = 2 ∷ 1 ∷ 1 ∷ 1 ∷ 2 ∷ []
 
 -- how many bytes it has
 abbrev pub hotSize : ℕ
 hotSize = total hotWidths
 
--- its bytes: state, balance, newest slot, records made
+-- its bytes, of state, balance, newest slot and records made
 unfoldable pub hotBytes : State → ℕ → ℕ → ℕ → List ℕ
 hotBytes s balance newest filled =
-    joined (word (s .number) ∷ word balance ∷ (s .tries ∷ []) ∷ (newest ∷ []) ∷ (filled ∷ []) ∷ [])
+    joined (word (s .number) ∷ (s .tries ∷ []) ∷ (newest ∷ []) ∷ (filled ∷ []) ∷ word balance ∷ [])
 
 -- number and tries
 unfoldable pub stateIn : List ℕ → State
-stateIn s = record { number = wordAt s (offset hotWidths 0); tries = byteAt s (offset hotWidths 2) }
-
--- the balance
-abbrev pub balanceIn : List ℕ → ℕ
-balanceIn s = wordAt s (offset hotWidths 1)
+stateIn s = record { number = wordAt s (offset hotWidths 0); tries = byteAt s (offset hotWidths 1) }
 
 -- the newest record's slot
 abbrev pub newestIn : List ℕ → ℕ
-newestIn s = byteAt s (offset hotWidths 3)
+newestIn s = byteAt s (offset hotWidths 2)
 
 -- how many records were made, at most the log's size
 abbrev pub filledIn : List ℕ → ℕ
-filledIn s = byteAt s (offset hotWidths 4)
+filledIn s = byteAt s (offset hotWidths 3)
 
--- ---- block C: parameters, keys and PIN
+-- the balance
+abbrev pub balanceIn : List ℕ → ℕ
+balanceIn s = wordAt s (offset hotWidths 4)
 
--- parameters, key set 1, key set 2, shared data, PIN
+-- ---- block C: what all purses share, then the purse's parameters and keys
+
+-- shared data, PIN, parameters, key set 1, key set 2
 abbrev pub coldWidths : List ℕ
-coldWidths = parametersSize ∷ keySetSize ∷ keySetSize ∷ sharedSize ∷ pinSize ∷ []
+coldWidths = sharedSize ∷ pinSize ∷ parametersSize ∷ keySetSize ∷ keySetSize ∷ []
 
 -- how many bytes it has
 abbrev pub coldSize : ℕ
@@ -208,8 +208,8 @@ coldSize = total coldWidths
 unfoldable pub coldBytes : Head → List ℕ
 coldBytes h =
     joined
-    (parameterBytes (h .purse .parameters) ∷ keySetBytes (h .purse .debit) ∷ keySetBytes (h .purse .credit)
-    ∷ sharedBytes (h .shared) ∷ pinBytes (h .pin) ∷ [])
+    (sharedBytes (h .shared) ∷ pinBytes (h .pin)
+    ∷ parameterBytes (h .purse .parameters) ∷ keySetBytes (h .purse .debit) ∷ keySetBytes (h .purse .credit) ∷ [])
 
 -- ---- the head of the three
 
@@ -218,9 +218,9 @@ unfoldable pub purseIn : List ℕ → List ℕ → List ℕ → Purse
 purseIn fixed hot cold =
     record {
       aid = aidIn (part fixed (offset fixedWidths 0) aidSize);
-      parameters = parametersIn (part cold (offset coldWidths 0) parametersSize);
-      debit = keySetIn (part cold (offset coldWidths 1) keySetSize);
-      credit = keySetIn (part cold (offset coldWidths 2) keySetSize);
+      parameters = parametersIn (part cold (offset coldWidths 2) parametersSize);
+      debit = keySetIn (part cold (offset coldWidths 3) keySetSize);
+      credit = keySetIn (part cold (offset coldWidths 4) keySetSize);
       balance = balanceIn hot;
     }
 
@@ -229,8 +229,8 @@ unfoldable pub headOf : List ℕ → List ℕ → List ℕ → Head
 headOf fixed hot cold =
     record {
       fixed = fixedIn fixed;
-      shared = sharedIn (part cold (offset coldWidths 3) sharedSize);
+      shared = sharedIn (part cold (offset coldWidths 0) sharedSize);
       purse = purseIn fixed hot cold;
-      pin = pinIn (part cold (offset coldWidths 4) pinSize);
+      pin = pinIn (part cold (offset coldWidths 1) pinSize);
       state = stateIn hot;
     }

@@ -5,7 +5,7 @@ ghost use Rattle.memory.specs.Layout.{hotAt, coldAt, nextRoot, slot};
 
 pub const MEMORY_SIZE: usize = 4096;
 
-pub const MAGIC: u8 = 0xD1;
+pub const MAGIC: u8 = 0xD2;
 
 pub const ROOT_AT: usize = 1;
 

@@ -1,10 +1,11 @@
 // The card that memory reads as.
-ghost use mathlib.Core.Bool.{_||_};
 ghost use mathlib.Core.Path.{_≡_};
 ghost use Prim.Native.Nat.{_<_};
-ghost use Rattle.octets.specs.Bytes.{byteAt};
+ghost use Rattle.octets.specs.Bytes.{byteAt, part};
 ghost use Rattle.octets.specs.Tests.{allTrue};
-ghost use Rattle.card.specs.Proper.{allVoid};
+ghost use Rattle.card.specs.Log.{recordSize};
+ghost use Rattle.card.specs.Proper.{logOk};
+ghost use Rattle.memory.specs.Layout.{slot, slotAt};
 ghost use Rattle.memory.specs.Structs.{hotSize, newestIn, filledIn};
 ghost use Rattle.memory.specs.Reading.{hotOf, headIn, sizeIn, recordAt, logIn, formedTests, noCard, reading};
 use crate::layout;
@@ -59,7 +60,16 @@ fn personalized_in(memory: &[u8]) -> bool
     ensures { λ r. ⌜ r ≡ headIn (now (memory .entry)) .purse .parameters .personalized ⌝ }
 {
     let root = octets::byte_at(memory, layout::ROOT_AT);
-    octets::byte_at(memory, layout::cold_at(root)) == 1
+    octets::byte_at(memory, layout::cold_at(root) + structs::PARAMETERS_AT) == 1
+}
+
+// The slot of the record that `k` newer ones follow.
+fn slot_in(memory: &[u8], k: usize) -> &[u8]
+    ensures { λ r. ⌜ now r
+        ≡ part (now (memory .entry)) (slotAt (slot (sizeIn (now (memory .entry))) (newestIn (hotOf (now (memory .entry)))) k)) recordSize ⌝ }
+{
+    let j = layout::slot(size_in(memory), newest_in(memory), k);
+    part(memory, layout::RING_AT + RECORD_SIZE * j, RECORD_SIZE)
 }
 
 // The record that `k` newer ones follow.
@@ -70,14 +80,14 @@ pub fn record_at(memory: &[u8], k: usize) -> Record
     if filled <= k {
         return void();
     }
-    let j = layout::slot(size_in(memory), newest_in(memory), k);
-    card::record_in(part(memory, layout::RING_AT + RECORD_SIZE * j, RECORD_SIZE))
+    card::record_in(slot_in(memory, k))
 }
 
-// Whether every record is void.
-fn log_void(memory: &[u8]) -> bool
-    ensures { λ r. ⌜ r ≡ allVoid (logIn (now (memory .entry))) ⌝ }
+// Whether every record is void or, on a personalized card, has a key set.
+fn log_ok(memory: &[u8]) -> bool
+    ensures { λ r. ⌜ r ≡ logOk (headIn (now (memory .entry)) .purse .parameters .personalized) (logIn (now (memory .entry))) ⌝ }
 {
+    let personalized = personalized_in(memory);
     let size = size_in(memory) as usize;
     let filled = filled_in(memory) as usize;
     let mut k = 0;
@@ -85,23 +95,12 @@ fn log_void(memory: &[u8]) -> bool
         if filled <= k {
             return true;
         }
-        let bytes = card::record_bytes(record_at(memory, k));
-        if !octets::all_zero(&bytes) {
+        if !card::record_ok(slot_in(memory, k), personalized) {
             return false;
         }
         k += 1;
     }
     true
-}
-
-// The log is void until the card is personalized.
-fn log_ok(memory: &[u8]) -> bool
-    ensures { λ r. ⌜ r ≡ (headIn (now (memory .entry)) .purse .parameters .personalized || allVoid (logIn (now (memory .entry)))) ⌝ }
-{
-    if personalized_in(memory) {
-        return true;
-    }
-    log_void(memory)
 }
 
 // Size, magic, root, newest slot, number of records and log.

@@ -276,17 +276,17 @@ fn fixed_in(s: &[u8]) -> Fixed
     }
 }
 
-// ---- block H: number, balance, tries, the newest record's slot, how many records were made
+// ---- block H: number, tries, the newest record's slot, how many records were made, the purse's balance
 
-const BALANCE_AT: usize = 2;
-
-const TRIES_AT: usize = BALANCE_AT + 2;
+const TRIES_AT: usize = 2;
 
 pub const NEWEST_AT: usize = TRIES_AT + 1;
 
 pub const FILLED_AT: usize = NEWEST_AT + 1;
 
-pub const HOT_SIZE: usize = FILLED_AT + 1;
+const BALANCE_AT: usize = FILLED_AT + 1;
+
+pub const HOT_SIZE: usize = BALANCE_AT + 2;
 
 // Its bytes.
 pub fn hot_bytes(s: State, balance: u16, newest: u8, filled: u8) -> [u8; HOT_SIZE]
@@ -295,11 +295,11 @@ pub fn hot_bytes(s: State, balance: u16, newest: u8, filled: u8) -> [u8; HOT_SIZ
     [
         high(s.number),
         low(s.number),
-        high(balance),
-        low(balance),
         s.tries,
         newest,
         filled,
+        high(balance),
+        low(balance),
     ]
 }
 
@@ -313,34 +313,34 @@ fn state_in(s: &[u8]) -> State
     }
 }
 
-// ---- block C: parameters, key set 1, key set 2, shared data, PIN
+// ---- block C: shared data, PIN, parameters, key set 1, key set 2
 
-const DEBIT_AT: usize = PARAMETERS_SIZE;
+const PIN_AT: usize = SHARED_SIZE;
+
+pub const PARAMETERS_AT: usize = PIN_AT + PIN_SIZE;
+
+const DEBIT_AT: usize = PARAMETERS_AT + PARAMETERS_SIZE;
 
 const CREDIT_AT: usize = DEBIT_AT + KEY_SET_SIZE;
 
-const SHARED_AT: usize = CREDIT_AT + KEY_SET_SIZE;
-
-const PIN_AT: usize = SHARED_AT + SHARED_SIZE;
-
-pub const COLD_SIZE: usize = PIN_AT + PIN_SIZE;
+pub const COLD_SIZE: usize = CREDIT_AT + KEY_SET_SIZE;
 
 // Its bytes.
 pub fn cold_bytes(h: Head) -> [u8; COLD_SIZE]
     ensures { λ r. ⌜ r ≡ coldBytes h ⌝ }
 {
     let purse = h.purse;
+    let shared = shared_bytes(h.shared);
+    let pin = pin_bytes(h.pin);
     let parameters = parameter_bytes(purse.parameters);
     let debit = key_set_bytes(purse.debit);
     let credit = key_set_bytes(purse.credit);
-    let shared = shared_bytes(h.shared);
-    let pin = pin_bytes(h.pin);
     let mut s = [0u8; COLD_SIZE];
-    paste(&mut s, 0, &parameters);
+    paste(&mut s, 0, &shared);
+    paste(&mut s, PIN_AT, &pin);
+    paste(&mut s, PARAMETERS_AT, &parameters);
     paste(&mut s, DEBIT_AT, &debit);
     paste(&mut s, CREDIT_AT, &credit);
-    paste(&mut s, SHARED_AT, &shared);
-    paste(&mut s, PIN_AT, &pin);
     s
 }
 
@@ -351,7 +351,7 @@ fn purse_in(fixed: &[u8], hot: &[u8], cold: &[u8]) -> Purse
     ensures { λ r. ⌜ r ≡ purseIn (now (fixed .entry)) (now (hot .entry)) (now (cold .entry)) ⌝ }
 {
     let aid = aid_in(part(fixed, 0, AID_SIZE));
-    let parameters = parameters_in(part(cold, 0, PARAMETERS_SIZE));
+    let parameters = parameters_in(part(cold, PARAMETERS_AT, PARAMETERS_SIZE));
     let debit = key_set_in(part(cold, DEBIT_AT, KEY_SET_SIZE));
     let credit = key_set_in(part(cold, CREDIT_AT, KEY_SET_SIZE));
     Purse {
@@ -368,7 +368,7 @@ pub fn head_of(fixed: &[u8], hot: &[u8], cold: &[u8]) -> Head
     ensures { λ r. ⌜ r ≡ headOf (now (fixed .entry)) (now (hot .entry)) (now (cold .entry)) ⌝ }
 {
     let purse = purse_in(fixed, hot, cold);
-    let shared = shared_in(part(cold, SHARED_AT, SHARED_SIZE));
+    let shared = shared_in(part(cold, 0, SHARED_SIZE));
     let pin = pin_in(part(cold, PIN_AT, PIN_SIZE));
     let state = state_in(hot);
     let installed = fixed_in(fixed);

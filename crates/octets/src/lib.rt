@@ -25,7 +25,6 @@ pub use reading::fill;
 pub use reading::part4;
 pub use reading::part8;
 pub use reading::part16;
-pub use reading::part24;
 pub use reading::part48;
 pub use reading::word_at;
 pub use tests::all_true;

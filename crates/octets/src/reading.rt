@@ -88,15 +88,6 @@ pub fn part16(s: &[u8], at: usize) -> [u8; 16]
     r
 }
 
-// Twenty-four bytes from an index on.
-pub fn part24(s: &[u8], at: usize) -> [u8; 24]
-    ensures { λ r. ⌜ r ≡ field (now (s .entry)) at 24 ⌝ }
-{
-    let mut r = [0u8; 24];
-    fill(&mut r, s, at);
-    r
-}
-
 // Forty-eight bytes from an index on.
 pub fn part48(s: &[u8], at: usize) -> [u8; 48]
     ensures { λ r. ⌜ r ≡ field (now (s .entry)) at 48 ⌝ }

@@ -1,5 +1,5 @@
 -- Histories of demand 3 exist on every memory of 4,096 bytes: with two installations, with a COMPLETE TRANSACTION that is cut, and with a VERIFY
--- PIN that is cut, at every limit below their stores. Commands are signed as the laws of commands_spec have it; no signature is computed.
+-- PIN that is cut, at every limit below their stores; and with a COMPLETE TRANSACTION of 33 stores. Commands are signed as the laws of commands_spec have it; no signature is computed.
 -- Assumes nothing.
 use mathlib.Core.Bool.{Bool, true, false, _&&_, false≢true}
 use mathlib.Core.List.{List, [], _∷_, _++_}
@@ -49,7 +49,7 @@ use Rattle.commands_spec.specs.Values.{Tlv, flat, Apart, here, there, Listed, m
 use Rattle.commands_spec.proofs.Authentication.{update-granted, authenticate-granted}
 use Rattle.commands_spec.proofs.AnyOrder.{storing}
 use Rattle.commands_spec.proofs.ChangesPin.{change-granted, change-sets}
-use Rattle.commands_spec.proofs.Granted.{complete-moves}
+use Rattle.commands_spec.proofs.Granted.{complete-granted, complete-moves}
 use Rattle.commands_spec.proofs.VerifiesPin.{wrong-costs}
 use Rattle.commands_spec.proofs.StoresData.{store-granted, store-personalizes, store-datum}
 use Rattle.commands_spec.proofs.Moves.{only-complete-moves}
@@ -67,7 +67,9 @@ use Rattle.purse_spec.specs.Reasons.{InRange}
 use Rattle.purse_spec.proofs.Typed.{Typed, typed-next}
 use Rattle.purse_spec.proofs.Answers.{answers-keep, hands-unselected}
 use Rattle.purse_spec.proofs.Fresh.{installs}
-use Rattle.purse_spec.proofs.Walks.{At, Reached, onwards, sent, CutIn, cuts}
+use Rattle.purse_spec.proofs.StoreCounts.{complete-stores}
+use Rattle.purse_spec.proofs.DemandTwo.{demand-two}
+use Rattle.purse_spec.proofs.Walks.{Walk, At, Reached, onwards, sent, CutIn, cuts}
 
 -- ---- bytes
 
@@ -455,8 +457,11 @@ completion-named : (s : Session) → (byteAt (completion s (zeros 16) []) 0 ≡ 
 unfolding signedCommand signedBy signedText
 completion-named s = (refl, refl)
 
-cut-complete : (first : Situation) → Typed first → length (first .memory) ≡ 4096 → CutIn 0x94 0x46 first
-cut-complete first t e =
+-- behind its INITIALIZE TRANSACTION: COMPLETE TRANSACTION answers 9000 and moves the number
+completing : (first : Situation) → Typed first → length (first .memory) ≡ 4096
+    → Some first (λ c s. let x = completion s (zeros 16) [] in
+    AreBytes x × (respond c s x (zeros 8) .status ≡ 0x9000) × (cardAfter c s x (zeros 8) .head .state .number ≡ c .head .state .number + 1))
+completing first t e =
     let w = ready first t e in
     let c = w .card in
     let s = w .session in
@@ -468,9 +473,43 @@ cut-complete first t e =
     let t = respond c s x (zeros 8) .session in
     let r : Reached first c t = subst (λ (d : Card). Reached first d t) (reads-only c s x (zeros 8) (initialization-reads s)) (onwards x (zeros 8) (w .reached) (initialization-bytes s z) (zeros-bytes 8) refl) in
     let y = subst Sized (r .here .session) (r .here .typed .session) in
+    let g = complete-granted c s Admin 0x01 0x0978 100 [] (zeros 8) (omega arith) o (cash-admin (s .verified)) a (zeros 16) [] (zeros 8) refl (omega arith) in
     let m = complete-moves c s Admin 0x01 0x0978 100 [] (zeros 8) (omega arith) o (cash-admin (s .verified)) a (zeros 16) [] (zeros 8) refl (omega arith) in
-    cuts 0x94 0x46 (completion t (zeros 16) []) (zeros 8) r (completion-bytes t y) (zeros-bytes 8) refl (completion-named t)
-    (λ q. let n : c .head .state .number ≡ c .head .state .number + 1 = ap (λ (d : Card). d .head .state .number) (sym q) ∙ m .number in omega arith)
+    record { card = c; session = t; reached = r; holds = (completion-bytes t y, g, m .number) }
+
+cut-complete : (first : Situation) → Typed first → length (first .memory) ≡ 4096 → CutIn 0x94 0x46 first
+cut-complete first t e =
+    let w = completing first t e in
+    let c = w .card in
+    let s = w .session in
+    cuts 0x94 0x46 (completion s (zeros 16) []) (zeros 8) (w .reached) (w .holds .0) (zeros-bytes 8) refl (completion-named s)
+    (λ q. let n : c .head .state .number ≡ c .head .state .number + 1 = ap (λ (d : Card). d .head .state .number) (sym q) ∙ w .holds .2 in omega arith)
+
+-- uncut it makes 33 stores
+pub record Counted (first : Situation) : Type 0 where
+  pub before : Situation
+  pub walk : Walk first before
+  pub bytes : List ℕ
+  pub named : (byteAt bytes 0 ≡ 0x94) × (byteAt bytes 1 ≡ 0x46)
+  pub count : run (sent bytes (zeros 8) 65535) before .count ≡ 33
+
+pub complete-counted : (first : Situation) → (typed : Typed first) → (long : length (first .memory) ≡ 4096) → Counted first
+unfolding OfBytes
+complete-counted first t e =
+    let w = completing first t e in
+    let st = w .reached .now in
+    let h = w .reached .here in
+    let x = completion (w .session) (zeros 16) [] in
+    let f : AreBytes x × AreBytes (zeros 8) = (w .holds .0, zeros-bytes 8) in
+    let m = demand-two st (w .card) x (zeros 8) (zeros 32) 65535 (h .typed) f (h .reads) (omega arith) refl (omega arith) in
+    let g : respond (w .card) (st .session) x (zeros 8) .status ≡ 0x9000 = ap (λ (s : Session). respond (w .card) s x (zeros 8) .status) (h .session) ∙ w .holds .1 in
+    record {
+      before = st;
+      walk = w .reached .walk;
+      bytes = x;
+      named = completion-named (w .session);
+      count = complete-stores st (w .card) x (zeros 8) (zeros 32) 65535 (h .typed) f (h .reads) (m .answer) (completion-named (w .session)) g;
+    }
 
 -- ---- VERIFY PIN, cut
 

@@ -11,6 +11,7 @@ pub mod Promised
 pub mod EveryCall
 pub mod Answers
 pub mod Counts
+pub mod StoreCounts
 pub mod Answered
 pub mod Tearing
 pub mod Responses

@@ -3,7 +3,7 @@
 use mathlib.Core.Bool.{Bool, true, false}
 use mathlib.Core.List.{List, [], _∷_}
 use mathlib.Core.Option.{some}
-use mathlib.Core.Path.{_≡_, ap, _∙_}
+use mathlib.Core.Path.{_≡_, refl, ap, _∙_}
 use Prim.Native.Nat.{ℕ, suc, _+_, _*_, _-_, _≤_, _<_}
 use native.Mathlib.Decide.{decLe}
 use native.Mathlib.Nat.{lt-of-not-le}
@@ -76,24 +76,40 @@ plans-cut (x ∷ xs) m c L e a h =
 
 -- ---- how many stores
 
-count-most : (x : Change) → storeCount x ≤ 234
+-- of changes in a row
+abbrev pub counted : List Change → ℕ
+counted [] = 0
+counted (x ∷ xs) = storeCount x + counted xs
+
+pub plans-length : (xs : List Change) (m : List ℕ) (c : Card) → EachProper c xs → length (plans xs m) ≡ counted xs
+unfolding plans
+plans-length [] m c a = refl
+plans-length (x ∷ xs) m c a =
+    let m′ = applied (plan x m) m in
+    let i = plans-length xs m′ (changed x c) (others-proper x xs c a) in
+    let n = plan-length x m (proper-fills x c (first-proper x xs c a)) in
+    length-append (plan x m) (plans xs m′) ∙ (λ j. n j + i j)
+
+-- a change with a record and block C
+abbrev mostStores : ℕ
+mostStores = hotSize + recordSize + coldSize + 1
+
+count-most : (x : Change) → storeCount x ≤ mostStores
 count-most x = go (x .logs) (x .cold)
   where
-    go : (logs cold : Bool) → hotSize + pick logs recordSize 0 + pick cold coldSize 0 + 1 ≤ 234
+    go : (logs cold : Bool) → hotSize + pick logs recordSize 0 + pick cold coldSize 0 + 1 ≤ mostStores
     go true true = omega arith
     go true false = omega arith
     go false true = omega arith
     go false false = omega arith
 
--- at most 234 each
-pub plans-few : (xs : List Change) (m : List ℕ) (c : Card) → EachProper c xs → length (plans xs m) ≤ 234 * length xs
-unfolding plans
-plans-few [] m c a = omega arith
-plans-few (x ∷ xs) m c a =
-    let m′ = applied (plan x m) m in
-    let i = plans-few xs m′ (changed x c) (others-proper x xs c a) in
-    let n = plan-length x m (proper-fills x c (first-proper x xs c a)) in
-    omega (arith, length-append (plan x m) (plans xs m′), count-most x)
+counted-most : (xs : List Change) → counted xs ≤ mostStores * length xs
+counted-most [] = omega arith
+counted-most (x ∷ xs) = omega (arith, count-most x, counted-most xs)
+
+-- at most as many each
+pub plans-few : (xs : List Change) (m : List ℕ) (c : Card) → EachProper c xs → length (plans xs m) ≤ mostStores * length xs
+plans-few xs m c a = omega (arith, plans-length xs m c a, counted-most xs)
 
 -- memory of bytes stays so
 pub plans-bytes : (xs : List Change) (m : List ℕ) (c : Card) (L : ℕ) → AreBytes m → readCard m ≡ some c → EachProper c xs

@@ -1,5 +1,5 @@
 -- The numbers of flags, key sets, levels and what is pending: each reads back as what it is the number of, and is a byte. Assumes nothing.
-use Prim.Native.Nat.{ℕ, _<_}
+use Prim.Native.Nat.{ℕ, _≤_, _<_}
 use mathlib.Core.Bool.{Bool, true, false}
 use mathlib.Core.Path.{_≡_, refl}
 use native.Mathlib.Omega.{arith}
@@ -52,6 +52,12 @@ unfolding setNumber
 set-small Debit = omega arith
 set-small Credit = omega arith
 set-small Admin = omega arith
+
+pub set-least : (set : Set) → 1 ≤ setNumber set
+unfolding setNumber
+set-least Debit = omega arith
+set-least Credit = omega arith
+set-least Admin = omega arith
 
 pub level-small : (level : Level) → levelNumber level < 256
 unfolding levelNumber

@@ -1,14 +1,18 @@
 -- Who may do what, as a table: document 01, "Access: PUBLIC, DEBIT (set 1), CREDIT (set 2), .. ADMIN (set 3), each including those below"; and
--- which channels are open and which answer with an R-MAC. Assumes nothing.
+-- which channels are open, which answer with an R-MAC, and the numbers of the key sets that opened them. Assumes nothing.
 use mathlib.Core.Bool.{Bool, true, false, false≢true}
 use mathlib.Core.List.{List, [], _∷_}
 use mathlib.Core.Path.{_≡_, refl, sym}
+use Prim.Native.Nat.{_≤_}
+use native.Mathlib.Omega.{arith}
 use lib.Dec.{leb}
 use Rattle.session.specs.declared.Set.{Set}
 use Rattle.session.specs.declared.Set.the-variants.{Debit, Credit, Admin}
 use Rattle.session.specs.declared.Level.{Level}
 use Rattle.session.specs.declared.Level.the-variants.{Closed, Mac, Rmac}
 use Rattle.session.specs.Access.{PUBLIC, DEBIT, CREDIT, ADMIN, accessOf, access, isOpen, hasRmac}
+use Rattle.session.specs.Codes.{openedBy}
+use Rattle.session.proofs.RoundTrip.{set-least, set-small}
 
 -- what a channel may do: what is open to PUBLIC, to DEBIT, to CREDIT, to ADMIN
 abbrev pub allowed : Level → List Bool
@@ -48,3 +52,10 @@ open-or-not (Mac set) =
     record { shut = λ e. absurd (false≢true (sym e)); opened = λ n. refl; with-rmac = λ e. absurd (false≢true e); without = λ n. refl }
 open-or-not (Rmac set) =
     record { shut = λ e. absurd (false≢true (sym e)); opened = λ n. refl; with-rmac = λ e. (set, refl); without = λ n. absurd (n set refl) }
+
+-- one that answers with an R-MAC was opened by set 1, 2 or 3
+pub opened-range : (level : Level) → hasRmac level ≡ true → (1 ≤ openedBy level) × (openedBy level ≤ 3)
+unfolding openedBy hasRmac
+opened-range Closed e = absurd (false≢true e)
+opened-range (Mac set) e = absurd (false≢true e)
+opened-range (Rmac set) e = (set-least set, omega (arith, set-small set))

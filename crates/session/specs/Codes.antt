@@ -1,5 +1,6 @@
 -- The numbers of key sets, of a channel's level and of what is pending, and the amount that is pending. Document 01: "Key sets: 1 debit,
--- 2 credit, 3 administration"; the others are the packed session's. Assumes nothing.
+-- 2 credit, 3 administration"; document 02, request 4: "the key set that opened the channel"; the others are the packed session's. Assumes
+-- nothing.
 use Prim.Native.Nat.{ℕ, _+_, _-_}
 use lib.Dec.{ltb, eqb}
 use Rattle.octets.specs.Choice.{pick}
@@ -19,6 +20,12 @@ setNumber Admin = 3
 -- the key set of a number; the third for any but 1 and 2
 unfoldable pub setOf : ℕ → Set
 setOf n = pick (eqb n 1) Debit (pick (eqb n 2) Credit Admin)
+
+-- the number of the key set that opened a channel, 0 where there is none
+unfoldable pub openedBy : Level → ℕ
+openedBy Closed = 0
+openedBy (Mac set) = setNumber set
+openedBy (Rmac set) = setNumber set
 
 -- the number of a channel's level and key set, 00 where there is none
 unfoldable pub levelNumber : Level → ℕ

@@ -1,7 +1,7 @@
 // The numbers of key sets, levels and what is pending.
 ghost use mathlib.Core.Path.{_≡_};
 ghost use Rattle.octets.specs.Tests.{flagByte};
-ghost use Rattle.session.specs.Codes.{setNumber, setOf, levelNumber, levelOf, pendingNumber, amountOf, pendingOf};
+ghost use Rattle.session.specs.Codes.{setNumber, setOf, openedBy, levelNumber, levelOf, pendingNumber, amountOf, pendingOf};
 use crate::Level;
 use crate::Pending;
 use crate::Set;
@@ -25,6 +25,17 @@ pub fn set_of(n: u8) -> Set
         1 => Set::Debit,
         2 => Set::Credit,
         _ => Set::Admin,
+    }
+}
+
+// The number of the key set that opened a channel, 0 where there is none.
+pub fn opened_by(level: Level) -> u8
+    ensures { λ r. ⌜ r ≡ openedBy level ⌝ }
+{
+    match level {
+        Level::Closed => 0,
+        Level::Mac(set) => set_number(set),
+        Level::Rmac(set) => set_number(set),
     }
 }
 

@@ -12,6 +12,7 @@ pub use access::access_of;
 pub use access::has_rmac;
 pub use access::is_open;
 pub use codes::amount_of;
+pub use codes::opened_by;
 pub use codes::set_number;
 pub use codes::set_of;
 pub use packing::Unpacked;

@@ -31,6 +31,7 @@ use session::amount_of;
 use session::answered;
 use session::ended;
 use session::has_rmac;
+use session::opened_by;
 use tdes::Engine;
 
 // Whether a transaction's amount is noted.
@@ -96,9 +97,9 @@ fn booked(debit: bool, amount: u16, head: Head) -> Head
     with_state(state, with_balance(balance as u16, head))
 }
 
-// Its log record, of the head afterwards.
-fn log_record(debit: bool, amount: u16, head: Head, context: [u8; 16]) -> Record
-    ensures { λ r. ⌜ r ≡ logRecord debit amount head context ⌝ }
+// Its log record, of the head afterwards, with the key set of the channel.
+fn log_record(debit: bool, amount: u16, head: Head, context: [u8; 16], keyset: u8) -> Record
+    ensures { λ r. ⌜ r ≡ logRecord debit amount head context keyset ⌝ }
 {
     Record {
         number: head.state.number,
@@ -106,6 +107,7 @@ fn log_record(debit: bool, amount: u16, head: Head, context: [u8; 16]) -> Record
         amount: log_amount(debit, amount),
         balance: head.purse.balance,
         context: context,
+        keyset: keyset,
     }
 }
 
@@ -137,9 +139,10 @@ pub fn complete_transaction(
     let debit = is_debit(pending);
     let amount = amount_of(pending);
     let next = booked(debit, amount, head);
-    let logged = log_record(debit, amount, next, context);
-    let answer = complete_answer(next);
     let channel = session.channel;
+    let level = channel.level;
+    let logged = log_record(debit, amount, next, context, opened_by(level));
+    let answer = complete_answer(next);
     let mac = answer_mac(engine, channel, answer);
     let left = answered(Pending::Nothing, mac, session);
     let mut o = done(Commits::HotAndRecord, next, left, with_mac(answer, mac));

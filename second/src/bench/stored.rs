@@ -24,6 +24,7 @@ pub fn write(folder: &Path) -> io::Result<()> {
         ("records.bench", records::file()),
         ("image-making.bench", image::making()),
         ("image-reading.bench", image::reading()),
+        ("image-no-card.bench", image::no_card()),
     ];
     for (name, bytes) in files {
         let path = folder.join(name);

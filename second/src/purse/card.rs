@@ -27,6 +27,8 @@ pub struct Record {
     pub amount: i16,
     pub balance: u16,
     pub context: [u8; 16],
+    /// The set that opened the channel; none only in a void record.
+    pub set: Option<Set>,
 }
 
 /// The records made so far, the newest first, at most `size`.
@@ -187,10 +189,19 @@ impl KeySet {
 }
 
 impl Set {
+    pub const ALL: [Set; 3] = [Set::Debit, Set::Credit, Set::Admin];
+
     pub fn of(number: u8) -> Option<Set> {
-        [Set::Debit, Set::Credit, Set::Admin]
-            .into_iter()
-            .find(|&set| set as u8 == number)
+        Set::ALL.into_iter().find(|&set| set as u8 == number)
+    }
+
+    /// 01's name of the set.
+    pub fn name(self) -> &'static str {
+        match self {
+            Set::Debit => "debit",
+            Set::Credit => "credit",
+            Set::Admin => "administration",
+        }
     }
 }
 
@@ -212,6 +223,7 @@ impl Log {
 }
 
 impl Record {
+    /// 25 bytes.
     pub fn bytes(&self) -> Vec<u8> {
         [
             self.number.to_be_bytes().as_slice(),
@@ -219,6 +231,7 @@ impl Record {
             &self.amount.to_be_bytes(),
             &self.balance.to_be_bytes(),
             &self.context,
+            &[self.set.map_or(0, |set| set as u8)],
         ]
         .concat()
     }

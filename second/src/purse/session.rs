@@ -58,8 +58,13 @@ pub enum Access {
 }
 
 impl Session {
+    /// The set that opened the channel.
+    pub fn set(&self) -> Option<Set> {
+        self.channel.as_ref().map(|channel| channel.set)
+    }
+
     pub fn access(&self) -> Access {
-        match self.channel.as_ref().map(|channel| channel.set) {
+        match self.set() {
             None => Access::Public,
             Some(Set::Debit) => Access::Debit,
             Some(Set::Credit) => Access::Credit,
@@ -75,8 +80,7 @@ impl Session {
 
     /// The DEK as stored now of the set that opened the channel; zeros where there is none.
     pub fn dek(&self, card: &Card) -> Key {
-        let channel = self.channel.as_ref();
-        let keys = channel.and_then(|channel| card.keys(channel.set));
+        let keys = self.set().and_then(|set| card.keys(set));
         keys.map_or([0; 16], |keys| keys.dek)
     }
 }

@@ -7,7 +7,7 @@ pub mod simulated;
 use second::bench::run::Bench;
 use second::bench::scenario::Scenario;
 use second::hex;
-use second::purse::card::{Card, KeySet, Record};
+use second::purse::card::{Card, KeySet, Record, Set};
 use second::purse::Session;
 
 /// The lines of document 01's worked example.
@@ -84,6 +84,7 @@ pub fn personalized() -> Card {
         amount: 350,
         balance: 350,
         context: [0xC9; 16],
+        set: Some(Set::Credit),
     });
     card
 }

@@ -52,8 +52,7 @@ impl Player {
     pub fn change_pin(&mut self) {
         self.ensure_admin();
         if self.one_in(3) {
-            self.signed(Instruction::PinChange, 0x00, 0x00, &[]);
-            return;
+            return self.unblock();
         }
         let block = if self.one_in(4) {
             self.bad_pin()
@@ -62,6 +61,10 @@ impl Player {
         };
         let data = encipher(&self.dek(), block);
         self.signed(Instruction::PinChange, 0x00, 0x00, &data);
+    }
+
+    pub fn unblock(&mut self) {
+        self.signed(Instruction::PinChange, 0x00, 0x00, &[]);
     }
 
     pub fn store_data(&mut self) {

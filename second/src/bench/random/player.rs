@@ -82,7 +82,7 @@ impl Player {
             22 | 23 => self.get_data(),
             24..=26 => self.put_data(),
             27 | 28 => self.read_record(),
-            29 => self.read_all(),
+            29 => self.read_some(),
             _ => self.noise(),
         }
     }

@@ -19,7 +19,7 @@ impl Player {
     }
 
     pub fn set(&mut self) -> Set {
-        self.pick(&[Set::Debit, Set::Credit, Set::Admin])
+        self.pick(&Set::ALL)
     }
 
     /// Installation data in range. Small logs fill soon.

@@ -7,6 +7,7 @@ use crate::purse::datum::Tag;
 use crate::purse::instruction::Instruction;
 use crate::purse::session::{Kind, Level};
 use crate::purse::Block;
+use crate::terminal::read_record;
 
 impl Player {
     pub fn verify_pin(&mut self) {
@@ -43,6 +44,23 @@ impl Player {
         }
     }
 
+    /// Usually the PIN flag is set afterwards, if the card has a PIN.
+    fn maybe_validate(&mut self) {
+        let card = self.card();
+        let Some(pin) = card.pin else {
+            return;
+        };
+        if self.scenario.bench.session.validated || self.one_in(4) {
+            return;
+        }
+        if card.tries == 0 {
+            self.ensure(&[Set::Admin]);
+            self.unblock();
+        }
+        self.ensure(&[Set::Credit, Set::Admin]);
+        self.verify(pin);
+    }
+
     /// INITIALIZE TRANSACTION, and usually COMPLETE TRANSACTION behind it.
     pub fn transaction(&mut self) {
         let kind = self.pick(&[Kind::Debit, Kind::Debit, Kind::Cash, Kind::Cash, Kind::Bank]);
@@ -51,10 +69,11 @@ impl Player {
             Kind::Cash => &[Set::Credit, Set::Credit, Set::Admin, Set::Debit],
             Kind::Bank => &[Set::Credit, Set::Credit, Set::Admin, Set::Admin, Set::Debit],
         };
-        self.ensure_both(sets);
-        if let (Kind::Bank, Some(pin), true) = (kind, self.card().pin, self.one_in(2)) {
-            self.verify(pin);
+        if kind == Kind::Bank {
+            self.maybe_validate();
         }
+        self.ensure_both(sets);
+        self.maybe_update();
         let mut currency = self.card().purse.currency;
         if self.one_in(12) {
             currency[self.below(2)] ^= 1;
@@ -67,21 +86,29 @@ impl Player {
         }
     }
 
-    /// Many right transactions in a row, so that a long log fills. One that can't begin ends them.
+    /// Many right transactions in a row, so that a long log fills with records of all sets. One
+    /// that can't begin ends them, and so does a channel that is lost.
     pub fn spree(&mut self) {
         if !self.scenario.bench.session.selected {
             self.scenario.select();
         }
-        self.scenario.open(Set::Admin, Level::Both);
         for _ in 0..self.below(70) {
             let (kind, most) = self.right_transaction();
+            self.ensure_access(kind);
+            self.maybe_update();
             let amount = 1 + self.below(usize::from(most.clamp(1, 400))) as u16;
             let data = [self.card().purse.currency, amount.to_be_bytes()].concat();
             let begin = Instruction::InitializeTransaction;
             if !is_done(&self.scenario.signed(begin, kind as u8, 0x00, &data)) {
-                return;
+                break;
             }
             self.complete();
+            if self.scenario.terminal.is_none() {
+                break;
+            }
+        }
+        if self.one_in(2) {
+            self.read_log();
         }
     }
 
@@ -90,10 +117,35 @@ impl Player {
         let purse = self.card().purse;
         let debit = purse.balance.min(purse.most_debit);
         let credit = purse.most_balance - purse.balance;
+        let bank = purse.bank.is_some() && self.scenario.bench.session.validated;
         if debit > 0 && (credit == 0 || self.one_in(2)) {
             (Kind::Debit, debit)
+        } else if bank && self.one_in(2) {
+            (Kind::Bank, credit)
         } else {
             (Kind::Cash, credit)
+        }
+    }
+
+    /// A channel of level 11 whose set may make such a transaction; now and then a new one.
+    fn ensure_access(&mut self, kind: Kind) {
+        let sets: &[Set] = match kind {
+            Kind::Debit => &[Set::Debit, Set::Debit, Set::Credit, Set::Admin],
+            Kind::Cash | Kind::Bank => &[Set::Credit, Set::Admin],
+        };
+        let open = self.scenario.terminal.as_ref();
+        let fits = open.is_some_and(|end| end.level == Level::Both && sets.contains(&end.set));
+        if !fits || self.one_in(4) {
+            let set = self.pick(sets);
+            self.scenario.open(set, Level::Both);
+        }
+    }
+
+    /// Now and then INITIALIZE UPDATE for any set, which leaves the channel open.
+    fn maybe_update(&mut self) {
+        if self.one_in(8) {
+            let set = self.set();
+            self.scenario.initialize_update(set, Level::Both);
         }
     }
 
@@ -109,13 +161,17 @@ impl Player {
         }
     }
 
+    /// COMPLETE TRANSACTION, and at times the newest record behind it.
     fn complete(&mut self) {
         let context = self.bytes(16);
         self.signed(Instruction::CompleteTransaction, 0x00, 0x00, &context);
+        if self.one_in(3) {
+            self.scenario.send(&read_record(1));
+        }
     }
 
     pub fn complete_alone(&mut self) {
-        self.ensure(&[Set::Debit, Set::Credit, Set::Admin]);
+        self.ensure(&Set::ALL);
         self.complete();
     }
 
@@ -146,13 +202,19 @@ impl Player {
         Vec::new()
     }
 
-    /// Every record of the log.
-    pub fn read_all(&mut self) {
-        if !self.one_in(4) {
-            return self.read_record();
+    /// One record of the log, or all.
+    pub fn read_some(&mut self) {
+        if self.one_in(4) {
+            self.read_log();
+        } else {
+            self.read_record();
         }
+    }
+
+    /// Every record of the log.
+    fn read_log(&mut self) {
         for number in 1..=self.card().log.size {
-            self.scenario.send(&crate::terminal::read_record(number));
+            self.scenario.send(&read_record(number));
         }
     }
 }

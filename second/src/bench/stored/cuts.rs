@@ -161,9 +161,10 @@ fn wrong_pins(scenario: &mut Scenario) {
     pins(scenario, "9999");
 }
 
-fn transactions(scenario: &mut Scenario, set: Set, kind: Kind) {
+/// The sets take turns, so that the records of a log differ in them.
+fn transactions(scenario: &mut Scenario, sets: &[Set], kind: Kind) {
     prepared(scenario);
-    for limit in 0..=MOST {
+    for (limit, &set) in (0..=MOST).zip(sets.iter().cycle()) {
         joined(scenario, set);
         begin(scenario, kind, 3);
         scenario.limit = limit;
@@ -176,11 +177,11 @@ fn transactions(scenario: &mut Scenario, set: Set, kind: Kind) {
 }
 
 fn debits(scenario: &mut Scenario) {
-    transactions(scenario, Set::Debit, Kind::Debit);
+    transactions(scenario, &Set::ALL, Kind::Debit);
 }
 
 fn credits(scenario: &mut Scenario) {
-    transactions(scenario, Set::Credit, Kind::Cash);
+    transactions(scenario, &[Set::Credit, Set::Admin], Kind::Cash);
 }
 
 fn put_datas(scenario: &mut Scenario) {

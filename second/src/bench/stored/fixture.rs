@@ -6,7 +6,7 @@ use crate::purse::card::{KeySet, Set};
 use crate::purse::channel::{encipher, encipher_bank};
 use crate::purse::instruction::Instruction;
 use crate::purse::session::{Kind, Level};
-use crate::terminal::{pin_block, tlv, wrap_keys};
+use crate::terminal::{pin_block, read_record, tlv, wrap_keys};
 
 pub const AID: [u8; 7] = [0xA0, 0x00, 0x00, 0x01, 0x51, 0x50, 0x01];
 pub const LOG: u8 = 10;
@@ -105,10 +105,23 @@ pub fn transaction(scenario: &mut Scenario, kind: Kind, amount: u16) -> Reply {
     complete(scenario)
 }
 
-/// Installs the card, defines sets 1 and 2 and the PIN, and personalizes it with all options.
+/// Reads every record.
+pub fn read_log(scenario: &mut Scenario) {
+    for number in 1..=LOG {
+        scenario.send(&read_record(number));
+    }
+}
+
+/// A fresh card, personalized with these maxima.
 pub fn personalized(scenario: &mut Scenario, balance: u16, debit: u16, number: u16) {
     fresh(scenario);
     scenario.open(Set::Admin, Level::Command);
+    personalize(scenario, balance, debit, number);
+}
+
+/// In an administration channel: defines sets 1 and 2 and the PIN, and personalizes the card with
+/// all options.
+pub fn personalize(scenario: &mut Scenario, balance: u16, debit: u16, number: u16) {
     put_key(scenario, Set::Debit, &keys(0x80));
     put_key(scenario, Set::Credit, &keys(0xC0));
     change_pin(scenario, PIN);

@@ -1,10 +1,11 @@
-//! A card in use, whose memory a purse's image keeps, and a session that reads all of it.
+//! Images of a card's memory: a card in use, whose image a purse keeps, a session that reads all
+//! of it, and one on an image that reads as no card.
 
-use super::fixture::{personalized, transaction, verify, LOG, PIN};
+use super::fixture::*;
 use crate::bench::scenario::Scenario;
 use crate::purse::card::Set;
 use crate::purse::session::{Kind, Level};
-use crate::terminal::{get_data, read_record};
+use crate::terminal::{get_data, read_record, select};
 
 /// Makes the card.
 pub fn making() -> Vec<u8> {
@@ -15,17 +16,7 @@ pub fn making() -> Vec<u8> {
 pub fn reading() -> Vec<u8> {
     let mut scenario = made();
     scenario.file.clear();
-    scenario.start();
-    scenario.select();
-    for tag in (0x01..=0x07).chain(0x14..=0x17) {
-        scenario.send(&get_data(tag));
-    }
-    for number in 1..=LOG {
-        scenario.send(&read_record(number));
-    }
-    for set in [Set::Debit, Set::Credit, Set::Admin] {
-        scenario.initialize_update(set, Level::Both);
-    }
+    read_all(&mut scenario);
     scenario.open(Set::Credit, Level::Both);
     verify(&mut scenario, PIN);
     transaction(&mut scenario, Kind::Bank, 40);
@@ -33,7 +24,36 @@ pub fn reading() -> Vec<u8> {
     scenario.file
 }
 
-/// A personalized card with a log that has gone round, and one try spent.
+/// Finds no card, also behind an installation that is refused; installs one, reads it and uses it.
+pub fn no_card() -> Vec<u8> {
+    let mut scenario = Scenario::new(0xD2);
+    read_all(&mut scenario);
+    scenario.install(&[]);
+    read_all(&mut scenario);
+    scenario.install(&installation());
+    read_all(&mut scenario);
+    scenario.open(Set::Admin, Level::Both);
+    personalize(&mut scenario, 5_000, 500, 100);
+    transaction(&mut scenario, Kind::Cash, 40);
+    read_log(&mut scenario);
+    scenario.file
+}
+
+/// Start-up, SELECT, and all that a card says without a channel.
+fn read_all(scenario: &mut Scenario) {
+    scenario.start();
+    scenario.send(&select(&AID));
+    for tag in (0x01..=0x07).chain(0x14..=0x17) {
+        scenario.send(&get_data(tag));
+    }
+    read_log(scenario);
+    for set in Set::ALL {
+        scenario.initialize_update(set, Level::Both);
+    }
+}
+
+/// A personalized card with a log that has gone round, whose newest record is of another set, and
+/// one try spent.
 fn made() -> Scenario {
     let mut scenario = Scenario::new(0xD1);
     personalized(&mut scenario, 5_000, 500, 100);
@@ -41,7 +61,8 @@ fn made() -> Scenario {
     for amount in 1..=u16::from(LOG) + 3 {
         transaction(&mut scenario, Kind::Cash, 100 + amount);
     }
-    transaction(&mut scenario, Kind::Debit, 350);
     verify(&mut scenario, "0000");
+    scenario.open(Set::Debit, Level::Both);
+    transaction(&mut scenario, Kind::Debit, 350);
     scenario
 }

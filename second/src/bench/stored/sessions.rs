@@ -3,13 +3,14 @@
 
 mod bank;
 mod life;
+mod log;
 mod pins;
 mod steps;
 
 use crate::bench::scenario::Scenario;
 
 pub fn file() -> Vec<u8> {
-    let parts: [fn(&mut Scenario); 17] = [
+    let parts: [fn(&mut Scenario); 20] = [
         steps::no_card,
         steps::malformed_commands,
         steps::classes_and_instructions,
@@ -27,6 +28,9 @@ pub fn file() -> Vec<u8> {
         life::put_data_rules,
         life::chains,
         life::log_and_numbers,
+        log::key_sets,
+        log::full_log,
+        log::updates_inside,
     ];
     let mut scenario = Scenario::new(2);
     for part in parts {

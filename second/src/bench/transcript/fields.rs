@@ -1,6 +1,7 @@
 //! Bytes split into named fields, one text a field.
 
 use crate::hex;
+use crate::purse::card::Set;
 use crate::purse::word;
 
 /// How a field's bytes read.
@@ -11,6 +12,7 @@ pub enum Form {
     /// A signed amount.
     Amount,
     AdministrativeStatus,
+    KeySet,
 }
 
 /// A field of a fixed length.
@@ -62,8 +64,15 @@ pub fn show(name: &str, value: &[u8], form: Form) -> String {
         (Form::AdministrativeStatus, &[status]) => {
             format!("{name}: {digits} = {}", status_words(status))
         }
+        (Form::KeySet, &[number]) => format!("{name} {}", set_words(number)),
         _ => format!("{name}: {digits}"),
     }
+}
+
+/// A key set: its number, and its name if there is such a set.
+pub fn set_words(number: u8) -> String {
+    let name = Set::of(number).map_or("unknown", Set::name);
+    format!("{number}, {name}")
 }
 
 fn status_words(status: u8) -> String {

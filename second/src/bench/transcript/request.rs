@@ -1,6 +1,6 @@
 //! What a record asks, in words.
 
-use super::fields::{show, split, Field, Form};
+use super::fields::{set_words, show, split, Field, Form};
 use crate::bench::file::Call;
 use crate::hex;
 use crate::purse::apdu::Apdu;
@@ -79,8 +79,9 @@ fn command_fields(instruction: Instruction, apdu: &Apdu, random: &[u8]) -> Vec<S
 fn parameter(instruction: Instruction, apdu: &Apdu) -> Vec<String> {
     let tag = |number| Tag::of(number).map_or("unknown tag", Tag::name);
     let text = match (instruction, apdu.p1, apdu.p2) {
-        (Instruction::InitializeUpdate, set, _) => format!("key set {set}"),
-        (Instruction::PutKey, _, set) => format!("key set {set}"),
+        (Instruction::InitializeUpdate, set, _) | (Instruction::PutKey, _, set) => {
+            format!("key set {}", set_words(set))
+        }
         (Instruction::ExternalAuthenticate, level, _) => format!("security level {level:02X}"),
         (Instruction::InitializeTransaction, 0x00, _) => "debit".to_string(),
         (Instruction::InitializeTransaction, 0x01, _) => "cash credit".to_string(),

@@ -34,7 +34,7 @@ pub fn fields(call: &Call, instruction: Option<Instruction>, response: &[u8]) ->
 fn update() -> [Field; 5] {
     [
         Field("ten zeros", 10, Form::Hex),
-        Field("key set", 1, Form::Number),
+        Field("key set", 1, Form::KeySet),
         Field("protocol", 1, Form::Hex),
         Field("card challenge", 8, Form::Hex),
         Field("card cryptogram", 8, Form::Hex),
@@ -73,6 +73,7 @@ fn record(data: &[u8]) -> Vec<String> {
         Field("amount", 2, Form::Amount),
         Field("new balance", 2, Form::Number),
         Field("context", 16, Form::Hex),
+        Field("by key set", 1, Form::KeySet),
     ];
     split(data, &fields)
 }

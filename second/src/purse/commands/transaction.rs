@@ -58,7 +58,15 @@ pub fn complete(turn: &mut Turn, data: &[u8]) -> Answer {
     let balance = i32::from(turn.card.purse.balance) + amount;
     let passes = !(0..=most).contains(&balance) || turn.card.number >= turn.card.most_number;
     refuse(passes, Refusal::Limit)?;
-    book(&mut turn.card, amount as i16, balance as u16, field(data)?);
+    let record = Record {
+        number: turn.card.number + 1,
+        currency: turn.card.purse.currency,
+        amount: amount as i16,
+        balance: balance as u16,
+        context: field(data)?,
+        set: turn.session.set(),
+    };
+    book(&mut turn.card, record);
     let card = &turn.card;
     let answer = [
         card.purse.identifier.as_slice(),
@@ -69,17 +77,11 @@ pub fn complete(turn: &mut Turn, data: &[u8]) -> Answer {
     Ok(with_mac(turn, answer))
 }
 
-/// Moves balance, number and log together; the record carries the new number.
-fn book(card: &mut Card, amount: i16, balance: u16, context: [u8; 16]) {
-    card.purse.balance = balance;
-    card.number += 1;
-    card.log.push(Record {
-        number: card.number,
-        currency: card.purse.currency,
-        amount,
-        balance,
-        context,
-    });
+/// Moves balance, number and log together.
+fn book(card: &mut Card, record: Record) {
+    card.purse.balance = record.balance;
+    card.number = record.number;
+    card.log.push(record);
 }
 
 /// The answer and its R-MAC, which moves the chain on.

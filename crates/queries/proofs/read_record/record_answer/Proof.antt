@@ -1,4 +1,4 @@
--- `record_answer`: 24 bytes fit the buffer.
+-- `record_answer`: 25 bytes fit the buffer.
 use mathlib.Core.Path.{_≡_}
 use native.Mathlib.Omega.{arith}
 use lib.ListN.{length}
@@ -22,7 +22,7 @@ append-requires c κs = search needs
 returns : tie.Need-returns
 returns c =
     let b = c .before .before .before .record-bytes in
-    let h : length (b .result) ≡ 24 = search needs in
+    let h : length (b .result) ≡ 25 = search needs in
     rw (← b .ensures) (alone (b .result) (c .append .ensures) (c .before .before .empty .ensures) (omega arith), omega arith)
 
 pub record-answer-spec : {M : Type 1} → statement M

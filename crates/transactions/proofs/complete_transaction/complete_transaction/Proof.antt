@@ -52,6 +52,9 @@ booked-requires c κs =
     let b = next-balance _ _ passes (balance-fits (j .before)) (maximum-fits (j .before)) in
     (next-number _ _ passes (number-fits (j .before)), rw (c .amount-of .ensures, d .is-debit .ensures) b)
 
+opened-by-requires : tie.Need-opened-by-requires
+opened-by-requires c κs = search needs
+
 log-record-requires : tie.Need-log-record-requires
 log-record-requires c κs = search needs
 
@@ -76,9 +79,10 @@ returns-2 c =
     let m = c .before in
     let t = m .before in
     let k = t .before in
-    let a = k .before .before in
+    let a = k .before in
     let l = a .before in
-    let b = l .before in
+    let g = l .before in
+    let b = g .before .before in
     let q = b .before in
     let d = q .before in
     let f = d .before in
@@ -94,6 +98,7 @@ returns-2 c =
       t .answered .ensures,
       k .answer-mac .ensures answer (x .0),
       l .log-record .ensures,
+      g .opened-by .ensures,
       b .booked .ensures,
       q .amount-of .ensures,
       d .is-debit .ensures,
@@ -103,5 +108,5 @@ pub complete-transaction-spec : {M : Type 1} → statement M
 complete-transaction-spec =
     tie.close
     (tie.spec complete-status-requires ended-requires refused-requires returns is-debit-requires amount-of-requires
-    booked-requires log-record-requires complete-answer-requires answer-mac-requires answered-requires
+    booked-requires opened-by-requires log-record-requires complete-answer-requires answer-mac-requires answered-requires
     with-mac-requires done-requires returns-2)

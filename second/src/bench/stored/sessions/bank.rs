@@ -8,7 +8,7 @@ use crate::purse::session::{Kind, Level};
 /// The flag not set, set in the channel, set in an earlier one, and lost.
 pub fn credits(scenario: &mut Scenario) {
     personalized(scenario, 1_000, 500, 100);
-    for set in [Set::Debit, Set::Credit, Set::Admin] {
+    for set in Set::ALL {
         without_flag(scenario, set);
         with_flag(scenario, set);
         flag_of_an_earlier_channel(scenario, set);

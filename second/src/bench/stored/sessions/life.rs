@@ -18,7 +18,7 @@ pub fn fresh_card(scenario: &mut Scenario) {
     for number in 0..=LOG + 1 {
         scenario.send(&read_record(number));
     }
-    for set in [Set::Debit, Set::Credit, Set::Admin] {
+    for set in Set::ALL {
         scenario.initialize_update(set, Level::Both);
     }
     scenario.open(Set::Admin, Level::Both);
@@ -124,7 +124,7 @@ fn wrong_tlvs(good: &[Vec<u8>]) -> Vec<Vec<Vec<u8>>> {
 /// Each command under each set and level, the PIN flag cleared and set.
 pub fn access(scenario: &mut Scenario) {
     personalized(scenario, 1_000, 500, 100);
-    for set in [Set::Debit, Set::Credit, Set::Admin] {
+    for set in Set::ALL {
         for level in [Level::Command, Level::Both] {
             scenario.open(set, level);
             put_key(scenario, Set::Debit, &keys(0x80));
@@ -241,9 +241,7 @@ pub fn log_and_numbers(scenario: &mut Scenario) {
     for amount in 1..=14 {
         transaction(scenario, Kind::Cash, amount);
     }
-    for number in 1..=LOG {
-        scenario.send(&read_record(number));
-    }
+    read_log(scenario);
     scenario.send(&get_data(0x14));
     put_data(scenario, 0x05, &[0x00, 0x0C]);
     put_data(scenario, 0x05, &[0x00, 0x0E]);
