@@ -116,11 +116,11 @@ noted-allowed h t set p1 currency amount a n l =
 
 -- ---- what a completed transaction leaves
 
--- the card after what is noted, a debit or a credit, in a channel of a key set
-abbrev bookedCard : Card → Pending → List ℕ → Set → Card
-bookedCard c p context set =
+-- the card after what is noted, a debit or a credit, with a context and a byte for the key set
+abbrev bookedCard : Card → Pending → List ℕ → ℕ → Card
+bookedCard c p context byte =
     let next = booked (isDebit p) (amountOf p) (c .head) in
-    changed (loggedChange next (logRecord (isDebit p) (amountOf p) next context (openedBy (Rmac set)))) c
+    changed (loggedChange next (logRecord (isDebit p) (amountOf p) next context byte)) c
 
 -- the byte that names the set
 pub named-by : (set : Set) → NamedBy set (openedBy (Rmac set) ∷ [])
@@ -129,15 +129,16 @@ named-by Debit = by-debit
 named-by Credit = by-credit
 named-by Admin = by-admin
 
-module _ (c : Card) (p1 currency amount : ℕ) (context : List ℕ) (set : Set) (long : length context ≡ 16) (a : Allows (c .head) p1 currency amount) where
+module _ (c : Card) (p1 currency amount : ℕ) (context : List ℕ) (set : Set) (byte : ℕ) (names : NamedBy set (byte ∷ [])) (long : length context ≡ 16)
+    (a : Allows (c .head) p1 currency amount) where
   -- where context and key set lie
-  in-place : take 16 (context ++ openedBy (Rmac set) ∷ []) ≡ context
-  in-place = take-at context (openedBy (Rmac set) ∷ []) 16 long
+  in-place : take 16 (context ++ byte ∷ []) ≡ context
+  in-place = take-at context (byte ∷ []) 16 long
 
-  behind : NamedBy set (drop 16 (context ++ openedBy (Rmac set) ∷ []))
-  behind = subst (NamedBy set) (sym (drop-at context (openedBy (Rmac set) ∷ []) 16 long)) (named-by set)
+  behind : NamedBy set (drop 16 (context ++ byte ∷ []))
+  behind = subst (NamedBy set) (sym (drop-at context (byte ∷ []) 16 long)) names
 
-  booked-kind : (b : Bool) → eqb p1 0x00 ≡ b → Completed c p1 amount context set (bookedCard c (pick b (Debiting amount) (Crediting amount)) context set)
+  booked-kind : (b : Bool) → eqb p1 0x00 ≡ b → Completed c p1 amount context set (bookedCard c (pick b (Debiting amount) (Crediting amount)) context byte)
   unfolding recordBytes booked isDebit amountOf newBalance changed headAfter logAfter withState withBalance withPurse logRecord logAmount
   booked-kind true t =
       let l = a .debits (eqb-true p1 0x00 t) in
@@ -242,7 +243,8 @@ module _ (c : Card) (s : Session) (set : Set) (p1 currency amount : ℕ) (le ran
     complete-moves =
         let n : next .pending ≡ noted p1 amount = unfold chained answered in rw handed-is in
         let l : next .channel .level ≡ Rmac set = unfold chained answered in rw handed-is (o .level) in
-        rw (complete-reached, complete-judged, n, l) (booked-kind c p1 currency amount context set long a (eqb p1 0x00) refl)
+        let y : NamedBy set (openedBy (next .channel .level) ∷ []) = rw l (named-by set) in
+        rw (complete-reached, complete-judged, n) (booked-kind c p1 currency amount context set (openedBy (next .channel .level)) y long a (eqb p1 0x00) refl)
 
     -- "Answer, all new: identifier, number, operational status, R-MAC"
     pub complete-answers :
