@@ -1,4 +1,3 @@
-pub mod Within
 pub mod Table
 pub mod Shapes
 pub mod Order

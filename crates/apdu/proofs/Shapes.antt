@@ -1,24 +1,23 @@
 -- Step 1 by the shape of the bytes: four bytes are a header; five a header and Le; else a header, Lc, as many bytes of data as Lc says, at
 -- least one, and at most one byte Le. All other bytes are no command. Assumes nothing.
-use mathlib.Core.Bool.{true, false, _||_}
+use mathlib.Core.Bool.{true, _||_}
 use mathlib.Core.List.{List, [], _∷_, _++_}
 use mathlib.Core.Logic.{_↔_, _⊎_, inl, inr}
 use mathlib.Core.Path.{_≡_, refl, sym, ap, subst, _∙_}
-use Prim.Native.Nat.{ℕ, _+_, _≤_}
+use Prim.Native.Nat.{ℕ, _+_, _≤_, _<_}
 use native.Mathlib.Omega.{arith}
 use native.Mathlib.Decide.{decLe}
-use borrow.Author.Tests.{ltb-true, eqb-true, eqb-false, lt-ltb, le-ltb, eq-eqb, ne-eqb}
+use borrow.Author.Tests.{lt-ltb, le-ltb, eq-eqb, ne-eqb}
 use lib.Dec.{ltb, eqb}
 use lib.ListN.{length, take, drop, length-append, length-drop, take-append-drop}
 use lib.Seq.{length-take-le}
 use Rattle.octets.specs.Bytes.{byteAt}
-use Rattle.octets.proofs.Rules.{or-left, or-right, pick-holds}
+use Rattle.octets.proofs.Rules.{first, or-left, or-right}
 use Rattle.octets.proofs.Parts.{part-between}
 use Rattle.apdu.specs.declared.parsing.Apdu.{Apdu}
 use Rattle.apdu.specs.declared.parsing.Parsed.{Parsed}
 use Rattle.apdu.specs.declared.parsing.Parsed.the-variants.{Command, WrongLength}
 use Rattle.apdu.specs.Parsing.{headed, parsed, dataOf}
-use Rattle.apdu.proofs.Within.{parsed-leads}
 use Rattle.apdu.proofs.Table.{one-of}
 
 -- the header that leads the bytes c, with lc bytes of data
@@ -31,24 +30,43 @@ pub data Shape (c : List ℕ) (a : Apdu) : Type 0 where
   five : a .lc ≡ 0 → (le : ℕ) → c ≡ a .cla ∷ a .ins ∷ a .p1 ∷ a .p2 ∷ le ∷ [] → Shape c a
   full : (body le : List ℕ) → 1 ≤ a .lc → length body ≡ a .lc → length le ≤ 1 → c ≡ a .cla ∷ a .ins ∷ a .p1 ∷ a .p2 ∷ a .lc ∷ (body ++ le) → Shape c a
 
--- ---- bytes of such a shape are that command
+-- ---- the rows of step 1, in order
 
--- by the number of bytes: with Lc
-pub parsed-full : (c : List ℕ) → 1 ≤ byteAt c 4 → 5 + byteAt c 4 ≤ length c → length c ≤ 6 + byteAt c 4 → parsed c ≡ headed c (byteAt c 4)
-unfolding parsed
-parsed-full c h k l = rw (le-ltb (length c) 4 (omega arith), le-ltb (length c) 6 (omega arith), ne-eqb (byteAt c 4) 0 (λ e. omega arith), fits)
-  where
-    fits : (eqb (length c) (5 + byteAt c 4) || eqb (length c) (6 + byteAt c 4)) ≡ true
-    fits =
-        elim (decLe (length c) (5 + byteAt c 4)) [
-          | yes e ↦ or-left (eqb (length c) (5 + byteAt c 4)) (eqb (length c) (6 + byteAt c 4)) (eq-eqb (length c) (5 + byteAt c 4) (omega arith))
-          | no e ↦ or-right (eqb (length c) (5 + byteAt c 4)) (eqb (length c) (6 + byteAt c 4)) (eq-eqb (length c) (6 + byteAt c 4) (omega arith))
-        ]
-
--- and without
+-- four or five bytes
 pub parsed-bare : (c : List ℕ) → 4 ≤ length c → length c ≤ 5 → parsed c ≡ headed c 0
 unfolding parsed
-parsed-bare c h k = rw (le-ltb (length c) 4 h, lt-ltb (length c) 6 (omega arith))
+parsed-bare c h k = rw (le-ltb (length c) 4 h) (sym (first (ltb (length c) 6) _ _ _ (lt-ltb (length c) 6 (omega arith)) refl))
+
+-- more of them, with Lc 00
+parsed-none : (c : List ℕ) → 6 ≤ length c → byteAt c 4 ≡ 0 → parsed c ≡ WrongLength
+unfolding parsed
+parsed-none c h z =
+    rw (le-ltb (length c) 4 (omega arith), le-ltb (length c) 6 h) (sym (first (eqb (byteAt c 4) 0) _ _ _ (eq-eqb (byteAt c 4) 0 z) refl))
+
+module _ (c : List ℕ) (some : 1 ≤ byteAt c 4) where
+  -- as many as Lc says, and Le or not
+  pub parsed-full : 5 + byteAt c 4 ≤ length c → length c ≤ 6 + byteAt c 4 → parsed c ≡ headed c (byteAt c 4)
+  unfolding parsed
+  parsed-full h k =
+      rw (le-ltb (length c) 4 (omega arith), le-ltb (length c) 6 (omega arith), ne-eqb (byteAt c 4) 0 (λ e. omega arith))
+      (sym (first (eqb (length c) (5 + byteAt c 4) || eqb (length c) (6 + byteAt c 4)) _ _ _ fits refl))
+    where
+      fits : (eqb (length c) (5 + byteAt c 4) || eqb (length c) (6 + byteAt c 4)) ≡ true
+      fits =
+          elim (decLe (length c) (5 + byteAt c 4)) [
+            | yes e ↦ or-left (eqb (length c) (5 + byteAt c 4)) (eqb (length c) (6 + byteAt c 4)) (eq-eqb (length c) (5 + byteAt c 4) (omega arith))
+            | no e ↦ or-right (eqb (length c) (5 + byteAt c 4)) (eqb (length c) (6 + byteAt c 4)) (eq-eqb (length c) (6 + byteAt c 4) (omega arith))
+          ]
+
+  -- any other number
+  parsed-other : 6 ≤ length c → (5 + byteAt c 4 ≤ length c → length c ≤ 6 + byteAt c 4 → ⊥) → parsed c ≡ WrongLength
+  unfolding parsed
+  parsed-other h n =
+      let u = ne-eqb (length c) (5 + byteAt c 4) (λ e. n (omega arith) (omega arith)) in
+      let v = ne-eqb (length c) (6 + byteAt c 4) (λ e. n (omega arith) (omega arith)) in
+      rw (le-ltb (length c) 4 (omega arith), le-ltb (length c) 6 h, ne-eqb (byteAt c 4) 0 (λ e. omega arith), u, v)
+
+-- ---- bytes of such a shape are that command
 
 shaped : (c : List ℕ) (a : Apdu) → Shape c a → parsed c ≡ Command a
 shaped c a (four l e) =
@@ -80,30 +98,28 @@ shape (x ∷ y ∷ z ∷ v ∷ []) a e =
 shape (x ∷ y ∷ z ∷ v ∷ le ∷ []) a e =
     let q : record { cla = x; ins = y; p1 = z; p2 = v; lc = 0 } ≡ a = cc in
     subst (λ (b : Apdu). Shape (x ∷ y ∷ z ∷ v ∷ le ∷ []) b) q (five refl le refl)
-shape (x ∷ y ∷ z ∷ v ∷ n ∷ w ∷ r) a e =
-    pick-holds P (ltb (length c) 4) _ _ (λ t f. absurd (never a f))
-    (λ t. pick-holds P (ltb (length c) 6) _ _ (λ u f. absurd (omega (arith, ltb-true (length c) 6 u)))
-    (λ u. pick-holds P (eqb n 0) _ _ (λ k f. absurd (never a f))
-    (λ k. pick-holds P (eqb (length c) (5 + n) || eqb (length c) (6 + n)) _ _ (λ h f. whole k (one-of _ _ h) f) (λ h f. absurd (never a f))))) e
+shape (x ∷ y ∷ z ∷ v ∷ n ∷ w ∷ r) a e = elim (decLe 1 n) [ yes o ↦ some o | no o ↦ absurd (never a (sym (parsed-none c (omega arith) (omega arith)) ∙ e)) ]
   where
     c : List ℕ
     c = x ∷ y ∷ z ∷ v ∷ n ∷ w ∷ r
 
-    P : Parsed → Type 0
-    P p = p ≡ Command a → Shape c a
-
-    long : (eqb (length c) (5 + n) ≡ true) ⊎ (eqb (length c) (6 + n) ≡ true) → (5 + n ≤ length c) × (length c ≤ 6 + n)
-    long (inl h) = let k : length c ≡ 5 + n = eqb-true (length c) (5 + n) h in (omega arith, omega arith)
-    long (inr h) = let k : length c ≡ 6 + n = eqb-true (length c) (6 + n) h in (omega arith, omega arith)
-
-    whole : eqb n 0 ≡ false → (eqb (length c) (5 + n) ≡ true) ⊎ (eqb (length c) (6 + n) ≡ true) → headed c n ≡ Command a → Shape c a
-    whole k h f =
-        let m = long h in
-        let o : 1 ≤ n = omega (arith, eqb-false n 0 k) in
+    whole : 1 ≤ n → 5 + n ≤ length c → length c ≤ 6 + n → Shape c a
+    whole o h k =
+        let f : headed c n ≡ Command a = sym (parsed-full c o h k) ∙ e in
         let q : record { cla = x; ins = y; p1 = z; p2 = v; lc = n } ≡ a = cc in
         let d : length (drop n (w ∷ r)) ≤ 1 = rw (length-drop n (w ∷ r)) (omega arith) in
         let s = take-append-drop n (w ∷ r) in
         subst (λ (b : Apdu). Shape c b) q (full (take n (w ∷ r)) (drop n (w ∷ r)) o (length-take-le n (w ∷ r) (omega arith)) d (rw s))
+
+    other : 1 ≤ n → (5 + n ≤ length c → length c ≤ 6 + n → ⊥) → Shape c a
+    other o f = absurd (never a (sym (parsed-other c o (omega arith) f) ∙ e))
+
+    some : 1 ≤ n → Shape c a
+    some o =
+        elim (decLe (5 + n) (length c)) [
+          | yes h ↦ elim (decLe (length c) (6 + n)) [ yes k ↦ whole o h k | no k ↦ other o (λ l m. k m) ]
+          | no h ↦ other o (λ l m. h l)
+        ]
 
 unshaped : (c : List ℕ) (p : Parsed) → parsed c ≡ p → ((a : Apdu) → Shape c a → ⊥) → p ≡ WrongLength
 unshaped c (Command a) e n = absurd (n a (shape c a e))
@@ -135,6 +151,18 @@ data-shaped c a body le l e = rw e (part-between (a .cla ∷ a .ins ∷ a .p1 �
 
 -- a command's header is its first bytes
 pub header-is : (c : List ℕ) (a : Apdu) → parsed c ≡ Command a → a ≡ header c (a .lc)
-header-is c a e =
-    let l = parsed-leads c a e in
-    λ i. record { cla = l .cla i; ins = l .ins i; p1 = l .p1 i; p2 = l .p2 i; lc = a .lc }
+header-is c a e = leads (shape c a e)
+  where
+    leads : Shape c a → a ≡ header c (a .lc)
+    leads (four l q) = rw q
+    leads (five l le q) = rw q
+    leads (full body le h l m q) = rw q
+
+-- and its data lie within it
+pub data-within : (c : List ℕ) (a : Apdu) → parsed c ≡ Command a → 0 < a .lc → 5 + a .lc ≤ length c
+data-within c a e h = within (shape c a e)
+  where
+    within : Shape c a → 5 + a .lc ≤ length c
+    within (four l q) = absurd (omega arith)
+    within (five l le q) = absurd (omega arith)
+    within (full body le k l m q) = omega (arith, ap length q, length-append body le)

@@ -20,7 +20,7 @@ use Rattle.apdu.specs.declared.instructions.Signed.the-variants.{PutKey, PinCha
 use Rattle.apdu.specs.Parsing.{parsed, dataOf}
 use Rattle.apdu.specs.Lengths.{plainLength, signedLength, macSize}
 use Rattle.apdu.specs.Early.{earlyStatus, plainStatus, signedStatus}
-use Rattle.apdu.proofs.Within.{data-within}
+use Rattle.apdu.proofs.Shapes.{data-within}
 
 -- a row of rules that lets pass has the length right
 pub early-length : (s p l n : Bool) → earlyStatus s p l n ≡ 0x9000 → n ≡ true

@@ -1,7 +1,7 @@
 -- `plain`: by the command; its data are as long as its length test says.
 use Rattle.commands.proofs.Bodies.{plain-size, plain-body}
 use Rattle.commands_spec.specs.Respond.{plainOf}
-use Rattle.apdu.proofs.Within.{data-within}
+use Rattle.apdu.proofs.Shapes.{data-within}
 use Rattle.apdu.specs.declared.instructions.Plain.the-variants.{InitializeUpdate, ExternalAuthenticate, VerifyPin}
 use Rattle.apdu.specs.Lengths.{plainLength}
 use native.Mathlib.Omega.{arith}
