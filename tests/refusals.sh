@@ -1,7 +1,7 @@
 #!/usr/bin/env bash
 # Must-fail edits are refused at a false fact, and where they say: the first error of each edit's log, as 'rt ci' leaves it, stands at a law, a
-# step of one, or a function's contract that the edit's second line names; it doesn't say that a name, a field or a need is missing; and
-# antt's trial run, which unfolds more names, doesn't admit what it stands at.
+# step of one, or a function's contract that the edit's second line names, and whose text the edit leaves alone; it doesn't say that a name,
+# a field or a need is missing; and antt's trial run, which unfolds more names, doesn't admit what it stands at.
 . "$(dirname "$0")/lib.sh"
 
 # What no false fact is said by, on an error's first line; and on the lines below it, where antt also gives hints on names and scopes.
@@ -51,6 +51,37 @@ is_admitted() {
     grep -F "/$file:" "$2" | grep 'a trial run of this declaration was admitted' | grep -q -F "(in \`${name%%'`'*}\`)"
 }
 
+# The text of a law: its type and its clauses, up to the next line that is indented as they are. Its name, the file.
+law_text() {
+    awk -v name="$1 " '
+        { depth = match($0, /[^ ]/); own = $0; sub(/^ *(pub )?/, "", own) }
+        index(own, name ":") == 1 { inside = depth; print; next }
+        inside && depth > 0 && depth <= inside && index(own, name) != 1 && own !~ /^unfolding / { inside = 0 }
+        inside { print }' "$2"
+}
+
+# A function's signature and contract. Its name, the file.
+contract_text() {
+    awk -v name="$1" '$0 ~ "fn " name "[(<]" { inside = 1 } inside { print } inside && /^ *{$/ { exit }' "$2"
+}
+
+# The text of what an error stands at: of a law, or of the contract of a function. The folder of a crate, the error, the name.
+statement_text() {
+    local file=${2%%:*}
+    case $2 in
+    'note: '*) file=${2#note: } && contract_text "$3" "$1/${file%%:*}" ;;
+    *'/Proof.antt:'*) file=$(dirname "$(dirname "$file")") && file=${file#proofs} && contract_text "$3" "$1/src${file:-/lib}.rt" ;;
+    *) law_text "$3" "$1/$file" ;;
+    esac
+}
+
+# Whether an edit leaves alone what an error stands at. The crate, the folder of the edited crate, the error, the name.
+is_left_alone() {
+    local text
+    text=$(statement_text "$2" "$3" "$4")
+    [ -n "$text" ] && [ "$text" = "$(statement_text "crates/$1" "$3" "$4")" ]
+}
+
 # One edit: its crate and label.
 judge() {
     local edit=crates/$1/must-fail/$2.edit folder=target/must-fail/$1/$2 error name
@@ -64,6 +95,8 @@ judge() {
         fail "must-fail $1/$2 is refused at a false fact: $error"
     elif ! is_named "$edit" "$name"; then
         fail "must-fail $1/$2 is refused where its second line says: $error"
+    elif ! is_left_alone "$1" "$folder" "$error" "$name"; then
+        fail "must-fail $1/$2 leaves alone what it is refused by: $error"
     else
         good=$((good + 1))
     fi
