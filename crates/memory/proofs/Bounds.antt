@@ -90,8 +90,8 @@ module _ (x : Change) (m : List ℕ) (c : Card) (f : AreBytes m) (e : readCard m
   -- state and balance afterwards are those of the change
   hot-bytes : (b : Bool) → Numbers (headAfter b (x .head) (c .head)) → AreBytes (hotPiece x m)
   unfolding headAfter purseAfter withState withPurse withBalance hotAfter
-  hot-bytes true n = hot-octets _ _ _ _ (n .number) (n .balance) (n .tries) (newest-byte (x .logs)) (filled-byte (x .logs)) .each
-  hot-bytes false n = hot-octets _ _ _ _ (n .number) (n .balance) (n .tries) (newest-byte (x .logs)) (filled-byte (x .logs)) .each
+  hot-bytes true n = hot-octets _ _ _ _ (n .number) (n .tries) (newest-byte (x .logs)) (filled-byte (x .logs)) (n .balance) .each
+  hot-bytes false n = hot-octets _ _ _ _ (n .number) (n .tries) (newest-byte (x .logs)) (filled-byte (x .logs)) (n .balance) .each
 
   cold-bytes : (b : Bool) → SizedHead (headAfter b (x .head) (c .head)) → Numbers (headAfter b (x .head) (c .head)) → b ≡ true → AreBytes (coldBytes (x .head))
   unfolding headAfter purseAfter coldBytes
@@ -136,4 +136,4 @@ install-bytes fixed aid admin m f q =
     let n = numbers h (p .tests) (p .sized .maxnumber) in
     image-bytes (fixedBytes aid fixed) (hotBytes (h .state) 0 0 0) (coldBytes h) m f
     (fixed-octets aid fixed (q .bytes) (n .aid) (n .logsize) (n .maxtries) .each)
-    (hot-octets (h .state) 0 0 0 (n .number) (n .balance) (n .tries) (omega arith) (omega arith) .each) (cold-octets h (p .sized) n .each)
+    (hot-octets (h .state) 0 0 0 (n .number) (n .tries) (omega arith) (omega arith) (n .balance) .each) (cold-octets h (p .sized) n .each)

@@ -99,7 +99,7 @@ module _ (x : Change) (m : List ℕ) (c : Card) (e : readCard m ≡ some c) (p :
 
   -- H afterwards, with the newest slot and the number of records
   abbrev hot : Bool → List ℕ
-  hot b = hotBytes (X .state) (X .purse .balance) (newestAfter b m) (filledAfter b m)
+  hot b = hotBytes (X .state) (newestAfter b m) (filledAfter b m) (X .purse .balance)
 
   -- C afterwards
   abbrev cold : Bool → List ℕ
@@ -141,10 +141,10 @@ module _ (x : Change) (m : List ℕ) (c : Card) (e : readCard m ≡ some c) (p :
               parameters = X .purse .parameters;
               debit = X .purse .debit;
               credit = X .purse .credit;
-              balance = balance-read (X .state) (X .purse .balance) (newestAfter (x .logs) m) (filledAfter (x .logs) m) i;
+              balance = balance-read (X .state) (newestAfter (x .logs) m) (filledAfter (x .logs) m) (X .purse .balance) i;
             };
         pin = X .pin;
-        state = state-read (X .state) (X .purse .balance) (newestAfter (x .logs) m) (filledAfter (x .logs) m) i;
+        state = state-read (X .state) (newestAfter (x .logs) m) (filledAfter (x .logs) m) (X .purse .balance) i;
       })
   head-after false z =
       λ i. record {
@@ -156,10 +156,10 @@ module _ (x : Change) (m : List ℕ) (c : Card) (e : readCard m ≡ some c) (p :
               parameters = was i .purse .parameters;
               debit = was i .purse .debit;
               credit = was i .purse .credit;
-              balance = balance-read (X .state) (X .purse .balance) (newestAfter (x .logs) m) (filledAfter (x .logs) m) i;
+              balance = balance-read (X .state) (newestAfter (x .logs) m) (filledAfter (x .logs) m) (X .purse .balance) i;
             };
         pin = was i .pin;
-        state = state-read (X .state) (X .purse .balance) (newestAfter (x .logs) m) (filledAfter (x .logs) m) i;
+        state = state-read (X .state) (newestAfter (x .logs) m) (filledAfter (x .logs) m) (X .purse .balance) i;
       }
 
   -- ---- the log

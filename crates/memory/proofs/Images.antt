@@ -151,7 +151,7 @@ module _ (c : Card) (p : Proper c) (newest filled : ℕ) (slots m : List ℕ) (s
   fx = fixedBytes (c .head .purse .aid) (c .head .fixed)
 
   abbrev ht : List ℕ
-  ht = hotBytes (c .head .state) (c .head .purse .balance) newest filled
+  ht = hotBytes (c .head .state) newest filled (c .head .purse .balance)
 
   abbrev cd : List ℕ
   cd = coldBytes (c .head)
@@ -160,7 +160,7 @@ module _ (c : Card) (p : Proper c) (newest filled : ℕ) (slots m : List ℕ) (s
   fx-length = fixed-length (c .head .purse .aid) (c .head .fixed) (p .sized .purse .aid .size)
 
   ht-length : length ht ≡ hotSize
-  ht-length = hot-length (c .head .state) (c .head .purse .balance) newest filled
+  ht-length = hot-length (c .head .state) newest filled (c .head .purse .balance)
 
   pub size-is : sizeOf fx ≡ c .head .fixed .logsize
   size-is = ap (λ (f : _). f .logsize) (fixed-read (c .head .purse .aid) (c .head .fixed) (p .sized .purse .aid .size))
@@ -237,7 +237,7 @@ module _ (c : Card) (p : Proper c) where
         (ap recordIn (image-record c p n n (slotBytes n (c .log)) m slots-few size (n - k) (let l = slots-length in omega arith) ∙ slots-at k q)
         ∙ record-read (getD (c .log) k void) (row-sized k))
 
-    image-log : logOf m″ (fixedBytes (c .head .purse .aid) (c .head .fixed)) (hotBytes (c .head .state) (c .head .purse .balance) n n) ≡ c .log
+    image-log : logOf m″ (fixedBytes (c .head .purse .aid) (c .head .fixed)) (hotBytes (c .head .state) n n (c .head .purse .balance)) ≡ c .log
     unfolding hotBytes
     image-log =
         ap (λ (s : ℕ). rows s (λ k. pick (ltb k n) (recordIn (part m″ (slotAt (slot s n k)) recordSize)) void))

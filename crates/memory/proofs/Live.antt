@@ -56,7 +56,7 @@ piece-fits false bytes n f = omega arith
 
 pub hot-fits : (x : Change) (m : List ℕ) → length (hotPiece x m) ≡ hotSize
 unfolding hotAfter
-hot-fits x m = hot-length (x .head .state) (x .head .purse .balance) (newestAfter (x .logs) m) (filledAfter (x .logs) m)
+hot-fits x m = hot-length (x .head .state) (newestAfter (x .logs) m) (filledAfter (x .logs) m) (x .head .purse .balance)
 
 -- its stores before the root's
 abbrev pub body : Change → List ℕ → List Store

@@ -185,31 +185,31 @@ fixed-octets a f o n l t = append-octets (aid-octets a n o) (append-octets (byte
 
 -- ---- block H
 
-module _ (s : State) (balance newest filled : ℕ) where
-  pub hot-length : length (hotBytes s balance newest filled) ≡ hotSize
+module _ (s : State) (newest filled balance : ℕ) where
+  pub hot-length : length (hotBytes s newest filled balance) ≡ hotSize
   unfolding hotBytes
   hot-length = refl
 
-  pub state-read : stateIn (hotBytes s balance newest filled) ≡ s
+  pub state-read : stateIn (hotBytes s newest filled balance) ≡ s
   unfolding hotBytes stateIn
   state-read = λ i. record { number = word-read (s .number) i; tries = s .tries }
 
-  pub balance-read : balanceIn (hotBytes s balance newest filled) ≡ balance
+  pub balance-read : balanceIn (hotBytes s newest filled balance) ≡ balance
   unfolding hotBytes
   balance-read = word-read balance
 
-  pub newest-read : newestIn (hotBytes s balance newest filled) ≡ newest
+  pub newest-read : newestIn (hotBytes s newest filled balance) ≡ newest
   unfolding hotBytes
   newest-read = refl
 
-  pub filled-read : filledIn (hotBytes s balance newest filled) ≡ filled
+  pub filled-read : filledIn (hotBytes s newest filled balance) ≡ filled
   unfolding hotBytes
   filled-read = refl
 
-  pub hot-octets : s .number < 65536 → balance < 65536 → s .tries < 256 → newest < 256 → filled < 256
-      → Octets hotSize (hotBytes s balance newest filled)
+  pub hot-octets : s .number < 65536 → s .tries < 256 → newest < 256 → filled < 256 → balance < 65536
+      → Octets hotSize (hotBytes s newest filled balance)
   unfolding hotBytes
-  hot-octets n b t x y =
+  hot-octets n t x y b =
       append-octets (word-octets (s .number) n)
       (append-octets (byte-octets t) (append-octets (byte-octets x) (append-octets (byte-octets y) (append-octets (word-octets balance b) none-octets))))
 
@@ -283,11 +283,11 @@ module _ (h : Head) (z : SizedHead h) where
 
   -- the three blocks of h say h
   pub head-read : (newest filled : ℕ)
-      → headOf (fixedBytes (h .purse .aid) (h .fixed)) (hotBytes (h .state) (h .purse .balance) newest filled) (coldBytes h) ≡ h
+      → headOf (fixedBytes (h .purse .aid) (h .fixed)) (hotBytes (h .state) newest filled (h .purse .balance)) (coldBytes h) ≡ h
   head-read newest filled =
       let a = h .purse .aid in
       let l = z .purse .aid .size in
-      cold-read (fixedBytes a (h .fixed)) (hotBytes (h .state) (h .purse .balance) newest filled)
+      cold-read (fixedBytes a (h .fixed)) (hotBytes (h .state) newest filled (h .purse .balance))
       ∙ (λ i. record {
         fixed = fixed-read a (h .fixed) l i;
         shared = h .shared;
@@ -297,10 +297,10 @@ module _ (h : Head) (z : SizedHead h) where
               parameters = h .purse .parameters;
               debit = h .purse .debit;
               credit = h .purse .credit;
-              balance = balance-read (h .state) (h .purse .balance) newest filled i;
+              balance = balance-read (h .state) newest filled (h .purse .balance) i;
             };
         pin = h .pin;
-        state = state-read (h .state) (h .purse .balance) newest filled i;
+        state = state-read (h .state) newest filled (h .purse .balance) i;
       })
 
 -- ---- what is read has its sizes, whatever the bytes

@@ -48,13 +48,13 @@ Run p L m n m′ = (n ≡ length p) × (m′ ≡ leaves p L m)
 
 -- block H
 pub hot-run : (s : State) (balance newest filled at room r root : ℕ) (logs : Bool) (hot m m′ : List ℕ) → newest ≡ newestAfter logs m
-    → filled ≡ filledAfter logs m → hot ≡ hotBytes s balance newest filled → at ≡ hotAt root → Put at hot room m r m′
+    → filled ≡ filledAfter logs m → hot ≡ hotBytes s newest filled balance → at ≡ hotAt root → Put at hot room m r m′
     → (r ≡ room - hotSize) × (m′ ≡ leaves (writes (hotAt root) (hotAfter s balance logs m)) room m)
 unfolding hotAfter
 hot-run s balance newest filled at room r root logs hot m m′ en ef eh ea p =
-    let l : length hot ≡ hotSize = ap length eh ∙ hot-length s balance newest filled in
+    let l : length hot ≡ hotSize = ap length eh ∙ hot-length s newest filled balance in
     let o : r ≡ room - hotSize = let i = p .0 in omega arith in
-    (o, p .1 ∙ (λ i. leaves (writes (ea i) ((eh ∙ (λ j. hotBytes s balance (en j) (ef j))) i)) room m))
+    (o, p .1 ∙ (λ i. leaves (writes (ea i) ((eh ∙ (λ j. hotBytes s (en j) (ef j) balance)) i)) room m))
 
 -- what is written where a test holds: the store call that writes it, or none
 pub piece-made : (b : Bool) (at at′ n room r : ℕ) (bytes bytes′ m m′ : List ℕ) → b ≡ true → at′ ≡ at → bytes′ ≡ bytes → length bytes′ ≡ n

@@ -43,7 +43,7 @@ filledAfter logs m = pick logs (grown (sizeIn m) (filledIn (hotOf m))) (filledIn
 
 -- block H of a state and a balance, with a log record or without
 unfoldable pub hotAfter : State → ℕ → Bool → List ℕ → List ℕ
-hotAfter s balance logs m = hotBytes s balance (newestAfter logs m) (filledAfter logs m)
+hotAfter s balance logs m = hotBytes s (newestAfter logs m) (filledAfter logs m) balance
 
 -- block H
 abbrev pub hotPiece : Change → List ℕ → List ℕ
@@ -92,7 +92,7 @@ imagePlan fixed hot cold slots =
 -- the same of a head, with the newest slot and the number of records
 unfoldable pub headPlan : Head → ℕ → ℕ → List ℕ → List Store
 headPlan h newest filled slots =
-    imagePlan (fixedBytes (h .purse .aid) (h .fixed)) (hotBytes (h .state) (h .purse .balance) newest filled) (coldBytes h) slots
+    imagePlan (fixedBytes (h .purse .aid) (h .fixed)) (hotBytes (h .state) newest filled (h .purse .balance)) (coldBytes h) slots
 
 -- installation makes a fresh card on any memory; it writes no record
 unfoldable pub installPlan : Fixed → Aid → Keys → List Store

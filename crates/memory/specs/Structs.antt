@@ -173,9 +173,9 @@ hotWidths = 2 ∷ 1 ∷ 1 ∷ 1 ∷ 2 ∷ []
 abbrev pub hotSize : ℕ
 hotSize = total hotWidths
 
--- its bytes, of state, balance, newest slot and records made
+-- its bytes, of state, newest slot, records made and balance
 unfoldable pub hotBytes : State → ℕ → ℕ → ℕ → List ℕ
-hotBytes s balance newest filled =
+hotBytes s newest filled balance =
     joined (word (s .number) ∷ (s .tries ∷ []) ∷ (newest ∷ []) ∷ (filled ∷ []) ∷ word balance ∷ [])
 
 -- number and tries

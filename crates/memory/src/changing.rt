@@ -64,7 +64,7 @@ fn put_hot(
 {
     let newest = newest_after(memory, logs);
     let filled = filled_after(memory, logs);
-    let hot = hot_bytes(state, balance, newest, filled);
+    let hot = hot_bytes(state, newest, filled, balance);
     stores::put_bytes(memory, layout::hot_at(root), &hot, room)
 }
 

@@ -289,8 +289,8 @@ const BALANCE_AT: usize = FILLED_AT + 1;
 pub const HOT_SIZE: usize = BALANCE_AT + 2;
 
 // Its bytes.
-pub fn hot_bytes(s: State, balance: u16, newest: u8, filled: u8) -> [u8; HOT_SIZE]
-    ensures { λ r. ⌜ r ≡ hotBytes s balance newest filled ⌝ }
+pub fn hot_bytes(s: State, newest: u8, filled: u8, balance: u16) -> [u8; HOT_SIZE]
+    ensures { λ r. ⌜ r ≡ hotBytes s newest filled balance ⌝ }
 {
     [
         high(s.number),
