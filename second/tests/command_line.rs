@@ -200,7 +200,8 @@ fn blocks_of_a_bench_file() {
         .trim()
         .parse()
         .unwrap();
-    assert!(blocks > 0 && blocks % 3 == 0, "{blocks}");
+    assert!(blocks > 0);
+    assert_eq!(blocks % 3, 0, "{blocks}");
 }
 
 #[test]

@@ -219,10 +219,10 @@ impl Watch {
         for (call, line) in file.calls.iter().zip(lines(&file, |_| ())) {
             match (call, &line) {
                 (Call::Install { .. }, Line::Install(0)) => watch.log.clear(),
-                (Call::Command { command, .. }, Line::Response(response)) => {
-                    if line.word() == Some(0x9000) {
-                        watch.see(command, response);
-                    }
+                (Call::Command { command, .. }, Line::Response(response))
+                    if line.word() == Some(0x9000) =>
+                {
+                    watch.see(command, response)
                 }
                 _ => (),
             }

@@ -13,6 +13,9 @@ use second::purse::session::Level;
 use second::terminal::get_data;
 use support::{bytes, hex, installation, line, personalized, selected};
 
+/// A command to the purse of a scenario.
+type Step = fn(&mut Scenario) -> Reply;
+
 #[test]
 fn pin_blocks() {
     for good in ["241234FFFFFFFFFF", "2C123456789012FF", "2500000FFFFFFFFF"] {
@@ -83,7 +86,7 @@ fn tries_left() {
         (card.most_tries, card.tries) = (most, most);
         let mut scenario = selected(card);
         scenario.open(Set::Admin, Level::Command);
-        let steps: [(&str, fn(&mut Scenario) -> Reply); 3] = [
+        let steps: [(&str, Step); 3] = [
             ("right PIN", |scenario| verify(scenario, "1234")),
             ("PIN CHANGE", |scenario| change_pin(scenario, "1234")),
             ("UNBLOCK", unblock),
