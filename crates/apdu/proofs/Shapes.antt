@@ -2,7 +2,7 @@
 -- least one, and at most one byte Le. All other bytes are no command. Assumes nothing.
 use mathlib.Core.Bool.{true, _||_}
 use mathlib.Core.List.{List, [], _∷_, _++_}
-use mathlib.Core.Logic.{_↔_, _⊎_, inl, inr}
+use mathlib.Core.Logic.{_↔_}
 use mathlib.Core.Path.{_≡_, refl, sym, ap, subst, _∙_}
 use Prim.Native.Nat.{ℕ, _+_, _≤_, _<_}
 use native.Mathlib.Omega.{arith}
@@ -18,7 +18,6 @@ use Rattle.apdu.specs.declared.parsing.Apdu.{Apdu}
 use Rattle.apdu.specs.declared.parsing.Parsed.{Parsed}
 use Rattle.apdu.specs.declared.parsing.Parsed.the-variants.{Command, WrongLength}
 use Rattle.apdu.specs.Parsing.{headed, parsed, dataOf}
-use Rattle.apdu.proofs.Table.{one-of}
 
 -- the header that leads the bytes c, with lc bytes of data
 abbrev pub header : List ℕ → ℕ → Apdu

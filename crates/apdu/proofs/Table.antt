@@ -1,13 +1,12 @@
 -- The twelve commands by their bytes, as document 01 prints them: CLA and INS, P1 and P2, Lc; and which bytes are no command's.
 -- Assumes nothing.
-use mathlib.Core.Bool.{Bool, true, false, _&&_, _||_, false≢true}
+use mathlib.Core.Bool.{Bool, true, false, _&&_, _||_}
 use mathlib.Core.Logic.{_↔_, _⊎_, inl, inr}
 use mathlib.Core.Path.{_≡_, refl}
 use Prim.Native.Nat.{ℕ, _≤_}
 use native.Mathlib.Omega.{arith}
 use borrow.Author.Tests.{leb-true, le-leb, eqb-true, eqb-false, eq-eqb, ne-eqb}
 use lib.Dec.{leb, eqb}
-use Rattle.octets.specs.Choice.{pick}
 use Rattle.octets.proofs.Conditions.{and-both}
 use Rattle.octets.proofs.Rules.{or-left, or-right, and-yes, pick-holds}
 use Rattle.apdu.specs.declared.instructions.Plain.{Plain}
@@ -162,7 +161,7 @@ SignedP1P2 CompleteTransaction p1 p2 = (p1 ≡ 0x00) × (p2 ≡ 0x00)
 SignedP1P2 PutData p1 p2 = (p1 ≡ 0x02) × Tag p2
 
 -- one of two
-pub one-of : (a b : Bool) → (a || b) ≡ true → (a ≡ true) ⊎ (b ≡ true)
+one-of : (a b : Bool) → (a || b) ≡ true → (a ≡ true) ⊎ (b ≡ true)
 one-of true b e = inl refl
 one-of false b e = inr e
 

@@ -1,6 +1,5 @@
 -- Every digit is the character of the table "0123456789ABCDEF", and every line is spelled out by its characters. Assumes nothing.
 use Prim.Native.Nat.{ℕ, zero, suc, _+_, _*_, _/_, _%_, _≤_, _<_}
-use mathlib.Core.Bool.{false}
 use mathlib.Core.List.{List, [], _∷_, _++_}
 use mathlib.Core.Path.{_≡_, refl, sym, ap, _∙_}
 use native.Mathlib.Omega.{arith}
@@ -9,8 +8,7 @@ use borrow.Author.Tests.{lt-ltb, eq-eqb, ne-eqb}
 use lib.ListN.{length, getD, take, length-append, List·getD-append}
 use lib.Seq.{getD-append-add}
 use Rattle.octets.specs.Bytes.{byteAt}
-use Rattle.purse_spec.specs.Calls.{Run}
-use Rattle.purse_spec.specs.History.{Call, install, start, send}
+use Rattle.purse_spec.specs.History.{install, start, send}
 use Rattle.bench_file.specs.Lines.{Bench, ran, digit, hex, answerLine, responseLine, line}
 use Rattle.bench_file.specs.Letters.{upperCase, answerText, ResponseText}
 use Rattle.bench_file.proofs.Digits.{length-hex}

@@ -1,9 +1,7 @@
 -- The bench at first and behind a call: document 01, "a 4,096-byte card memory, all zero at first. Its session is the unselected one at
 -- first and after answer 7". Assumes nothing.
-use Prim.Native.Nat.{ℕ}
 use mathlib.Core.Path.{_≡_, refl}
 use borrow.Author.Tests.{eq-eqb, ne-eqb}
-use lib.ListN.{length}
 use Rattle.octets.specs.Bytes.{zeros}
 use Rattle.session.specs.Transitions.{unselected}
 use Rattle.purse_spec.specs.History.{Call}

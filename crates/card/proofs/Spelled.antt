@@ -1,24 +1,20 @@
 -- A card is proper exactly where its values are in the ranges, told by numbers and bytes. Assumes nothing.
-use mathlib.Core.Bool.{Bool, true, false, not, _&&_, _||_, false≢true}
+use mathlib.Core.Bool.{Bool, true, false, not, _||_, false≢true}
 use mathlib.Core.List.{List, [], _∷_}
 use mathlib.Core.Path.{_≡_, refl, sym, ap, _∙_}
-use Prim.Native.Nat.{ℕ, _-_, _≤_}
-use native.Mathlib.Omega.{arith}
+use Prim.Native.Nat.{ℕ, _-_}
 use borrow.Author.Tests.{leb-true, le-leb, eqb-true, eqb-false, eq-eqb, ne-eqb, not-true, not-false}
 use lib.Dec.{leb, eqb}
 use lib.ListN.{length, drop, length-drop}
 use Rattle.octets.specs.Bytes.{zeros, allZero}
-use Rattle.octets.specs.Choice.{pick}
 use Rattle.octets.specs.Tests.{allTrue}
 use Rattle.octets.proofs.Conditions.{each, all-true}
 use Rattle.octets.proofs.Equality.{zero-zeros, zeros-zero}
 use Rattle.octets.proofs.Rules.{pick-holds}
 use Rattle.card.specs.declared.head.KeySet.{KeySet}
-use Rattle.card.specs.declared.head.Pin.{Pin}
 use Rattle.card.specs.declared.head.Head.{Head}
-use Rattle.card.specs.Pin.{wellFormed}
 use Rattle.card.specs.Proper.{fixedTests, aidOk, keysOk, bankOk, agentOk, unset, parameterTests, purseTests, pinOk, stateTests, properTests, SizedKeys, SizedHead}
-use Rattle.card.specs.Ranges.{NoKeys, Blank, HasDigits, InRanges}
+use Rattle.card.specs.Ranges.{NoKeys, InRanges}
 use Rattle.card.proofs.Pins.{block-formed, formed-block}
 
 -- ---- tests and what they tell

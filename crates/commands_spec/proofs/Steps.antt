@@ -19,7 +19,6 @@ use Rattle.card.specs.Card.{Card}
 use Rattle.session.specs.declared.Session.{Session}
 use Rattle.session.specs.Transitions.{ended, closed, chained}
 use Rattle.session.specs.Access.{isOpen}
-use Rattle.apdu.specs.declared.parsing.Apdu.{Apdu}
 use Rattle.apdu.specs.declared.parsing.Parsed.{Parsed}
 use Rattle.apdu.specs.declared.parsing.Parsed.the-variants.{WrongLength}
 use Rattle.apdu.specs.declared.instructions.Plain.{Plain}

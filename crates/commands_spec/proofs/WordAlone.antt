@@ -1,8 +1,8 @@
 -- "A command whose line names no answer gives its status word alone": every refusal, and EXTERNAL AUTHENTICATE, PUT KEY, PIN CHANGE/UNBLOCK, STORE
 -- DATA, PUT DATA and VERIFY PIN whatever they say. Assumes nothing.
-use mathlib.Core.Bool.{Bool, true, false, not, false≢true}
+use mathlib.Core.Bool.{Bool, true, false, not}
 use mathlib.Core.List.{List, []}
-use mathlib.Core.Path.{_≡_, refl, sym, _∙_}
+use mathlib.Core.Path.{_≡_, refl}
 use Prim.Native.Nat.{ℕ, _-_}
 use lib.Dec.{eqb}
 use lib.ListN.{length, getD, take}

@@ -2,14 +2,14 @@
 use Prim.Native.Nat.{ℕ, zero, suc, _+_, _*_, _/_, _≤_}
 use mathlib.Core.Path.{_≡_, refl, sym, ap, _∙_}
 use mathlib.Core.Bool.{Bool, true, false}
-use mathlib.Core.List.{List, [], _++_, append-assoc}
+use mathlib.Core.List.{List, _++_, append-assoc}
 use native.Mathlib.Omega.{arith}
 use lib.ListN.{length, take, drop, replicate, length-append, length-drop, take-append-drop}
 use lib.Seq.{take-at, drop-at, take-add, length-take-le}
 use Rattle.des_spec.specs.Bits.{Bytes, xorBytes}
 use Rattle.des_spec.specs.Des.{encipher, decipher}
 use Rattle.des_spec.specs.Modes.{tripleDes, ecb, cbcEncipher, cbcDecipher, cbc, blocks, rest, ecbText, cbcText}
-use Rattle.des_spec.specs.Walk.{Mode, walk, walkText, after, ecbBy, cbcEncipherBy, cbcDecipherBy, ecbMode, cbcMode}
+use Rattle.des_spec.specs.Walk.{Mode, walk, walkText, ecbBy, cbcEncipherBy, cbcDecipherBy, ecbMode, cbcMode}
 use Rattle.des_spec.proofs.Lists.{below-append, below-drop, below-take}
 
 -- ECB and CBC are such walks

@@ -1,7 +1,7 @@
 -- What the loop of a turn keeps, whatever the format. Assumes nothing.
 use Prim.Native.Nat.{ℕ, zero, suc, _+_, _-_, _≤_, _<_}
 use mathlib.Core.Bool.{Bool, true, false, _&&_}
-use mathlib.Core.List.{List, _++_}
+use mathlib.Core.List.{List}
 use mathlib.Core.Path.{_≡_, refl, sym, subst, _∙_}
 use native.Mathlib.Omega.{arith}
 use native.Mathlib.Nat.{zero-add}
@@ -10,7 +10,7 @@ use lib.Dec.{leb}
 use lib.ListN.{length, drop, length-append, length-drop}
 use Rattle.octets.specs.Bytes.{paste}
 use Rattle.octets.proofs.Pasting.{length-paste, paste-next, paste-nothing}
-use Rattle.framing.specs.Frames.{headerSize, frameSize, whole}
+use Rattle.framing.specs.Frames.{frameSize, whole}
 use Rattle.framing.specs.Formats.{Format, taken, nextOf, lineOf}
 use Rattle.framing.specs.Stream.{Batch, still, roomy, goesOn, extended, batchIn, batch}
 use Rattle.framing.specs.Step.{Fitting, Puts, Stepped, Batches}

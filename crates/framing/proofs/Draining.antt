@@ -1,11 +1,9 @@
 -- Turns on what is in hand, one after the other until one is not full: what they come to, turn by turn. Assumes nothing.
 use Prim.Native.Nat.{ℕ, zero, suc, _≤_, _<_}
-use mathlib.Core.Bool.{Bool, true, false, not, _&&_, false≢true}
-use mathlib.Core.List.{List, []}
+use mathlib.Core.Bool.{true, false, not}
 use mathlib.Core.Path.{_≡_, refl, _∙_}
 use native.Mathlib.Omega.{arith}
-use lib.ListN.{length, length-drop}
-use Rattle.octets.specs.Choice.{pick}
+use lib.ListN.{length}
 use Rattle.framing.specs.Frames.{headerSize}
 use Rattle.framing.specs.Formats.{Format}
 use Rattle.framing.specs.Stream.{turns, Reader, behind, behindAll, again, drains}

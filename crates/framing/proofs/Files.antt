@@ -7,7 +7,7 @@ use native.Mathlib.Omega.{arith}
 use borrow.Author.Tests.{ne-eqb}
 use lib.ListN.{length, drop, length-append}
 use Rattle.octets.specs.Choice.{pick}
-use Rattle.framing.specs.Frames.{headerSize, frameSize}
+use Rattle.framing.specs.Frames.{frameSize}
 use Rattle.framing.specs.Formats.{Format, taken, frontRefused, nextOf, lineOf, lastLine, linesIn, linesFrom}
 use Rattle.framing.proofs.Fronts.{rest-shorter, kind-append, data-append, rest-append, taken-whole, short-not-taken, taken-append, refused-append, refused-not-taken, refused-long}
 

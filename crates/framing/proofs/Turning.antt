@@ -1,7 +1,7 @@
 -- A turn: what is behind a batch, whatever the format. Assumes nothing.
 use Prim.Native.Nat.{ℕ, zero, suc, _+_, _-_, _≤_, _<_}
 use mathlib.Core.Bool.{Bool, true, false, not}
-use mathlib.Core.List.{List, _++_}
+use mathlib.Core.List.{List}
 use mathlib.Core.Path.{_≡_, refl, sym, ap, subst, _∙_}
 use native.Mathlib.Omega.{arith}
 use native.Mathlib.Nat.{zero-add}
@@ -9,12 +9,11 @@ use borrow.Author.Tests.{leb-true, le-leb, lt-leb}
 use lib.Dec.{leb}
 use lib.ListN.{length, drop, length-append}
 use Rattle.octets.specs.Choice.{pick}
-use Rattle.octets.specs.Bytes.{paste}
 use Rattle.octets.proofs.Pasting.{length-paste, paste-next}
 use Rattle.framing.specs.declared.next.Next.the-variants.{Full, More, Over}
 use Rattle.framing.specs.Frames.{frameSize}
-use Rattle.framing.specs.Formats.{Format, taken, frontRefused, nextOf, lineOf}
-use Rattle.framing.specs.Stream.{Batch, Turn, still, roomy, goesOn, extended, batchIn, batch, going, ending, turnOf, turn}
+use Rattle.framing.specs.Formats.{Format, taken, frontRefused, nextOf}
+use Rattle.framing.specs.Stream.{Batch, still, roomy, goesOn, extended, batchIn, batch, going, ending, turnOf, turn}
 use Rattle.framing.specs.Step.{Fitting, Puts, Batches, Turns}
 use Rattle.framing.proofs.Fronts.{both, taken-whole}
 use Rattle.framing.proofs.Batching.{size-within}

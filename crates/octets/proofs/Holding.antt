@@ -7,7 +7,7 @@ use native.Mathlib.Decide.{decLe}
 use native.Mathlib.Nat.{lt-of-not-le}
 use borrow.Author.Tests.{le-leb, lt-leb}
 use lib.Dec.{T, leb, leb→le}
-use lib.ListN.{length, take, drop, length-append, length-replicate}
+use lib.ListN.{length, take, length-append, length-replicate}
 use lib.Seq.{take-at, take-all, take-length, take-append-seam, drop-append-add, length-take-le}
 use Rattle.octets.specs.declared.buffer.Buffer.{Buffer}
 use Rattle.octets.specs.Bytes.{zeros, field, paste}

@@ -1,13 +1,12 @@
 -- Installation data in range are accepted on any memory of 4,096 bytes, and leave the fresh card: "All else starts undefined and zero,
 -- tries full", spelled out by fields. Assumes nothing.
-use mathlib.Core.Bool.{true}
 use mathlib.Core.List.{List, [], _∷_, _++_, append-assoc}
 use mathlib.Core.Option.{some}
 use mathlib.Core.Path.{_≡_, refl, sym, ap, _∙_}
 use Prim.Native.Nat.{ℕ, _+_, _-_, _≤_}
 use native.Mathlib.Omega.{arith}
 use lib.ListN.{length, drop, take, length-append, length-replicate, replicate-append-replicate}
-use lib.Seq.{take-at, take-all, drop-at, drop-drop}
+use lib.Seq.{take-at, take-all, drop-at}
 use Rattle.octets.specs.Bytes.{AreBytes, byteAt, part, field, zeros}
 use Rattle.octets.proofs.Parts.{field-part, part-between}
 use Rattle.card.specs.declared.head.Keys.{Keys}

@@ -11,7 +11,6 @@ use lib.ListN.{length, take}
 use Rattle.octets.specs.Bytes.{AreBytes, byteAt}
 use Rattle.stores.specs.Stores.{Store, leaves}
 use Rattle.stores.proofs.Limits.{limit-enough}
-use Rattle.card.specs.declared.head.State.{State}
 use Rattle.card.specs.declared.head.Head.{Head}
 use Rattle.card.specs.declared.log.Record.{Record}
 use Rattle.card.specs.Card.{Card}

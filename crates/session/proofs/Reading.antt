@@ -1,13 +1,13 @@
 -- The packed session: 128 bytes, which read back as the session and as no other; what reads as a session is its packing, and zeros
 -- are none. Assumes nothing.
-use Prim.Native.Nat.{ℕ, zero, suc, _+_, _<_}
+use Prim.Native.Nat.{ℕ, zero, suc, _+_}
 use mathlib.Core.Bool.{Bool, true, false, false≢true}
-use mathlib.Core.List.{List, _∷_, _++_, append-assoc}
+use mathlib.Core.List.{List, _++_, append-assoc}
 use mathlib.Core.Option.{Option, none, some}
 use mathlib.Core.Path.{_≡_, refl, sym, ap, _∙_}
 use native.Mathlib.Omega.{arith}
 use lib.Dec.{eqb}
-use lib.ListN.{length, drop, length-append}
+use lib.ListN.{length, drop}
 use lib.Seq.{drop-drop, drop-at, take-at}
 use Rattle.octets.specs.Choice.{pick}
 use Rattle.octets.specs.Bytes.{AreBytes, Octets, zeros, field, byteAt, same}

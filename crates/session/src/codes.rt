@@ -1,6 +1,5 @@
 // The numbers of key sets, levels and what is pending.
 ghost use mathlib.Core.Path.{_≡_};
-ghost use Rattle.octets.specs.Tests.{flagByte};
 ghost use Rattle.session.specs.Codes.{setNumber, setOf, openedBy, levelNumber, levelOf, pendingNumber, amountOf, pendingOf};
 use crate::Level;
 use crate::Pending;
