@@ -1,4 +1,6 @@
 // The command: its header, its instruction, its parameters and its length. Document 01's steps 1 to 5.
+#![tactic(auto)]
+
 mod early;
 mod instructions;
 mod lengths;

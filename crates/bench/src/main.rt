@@ -1,6 +1,8 @@
 // The bench: runs the bench files that its arguments name, or the one that comes from standard input, and writes their lines to standard
 // output. What can't be opened, read or written is named on standard error. The quick engine ciphers, or with the switch `--plain` the
 // plain one.
+#![tactic(auto)]
+
 mod arguments;
 mod stream;
 

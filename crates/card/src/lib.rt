@@ -1,5 +1,7 @@
 // The card by value: its head, its log's records, which cards there are, and a head with one part replaced. Where a card lies in
 // memory is the crate `memory`.
+#![tactic(auto)]
+
 pub mod change;
 pub mod fresh;
 pub mod head;

@@ -1,4 +1,6 @@
 // The secure channel: session keys, cryptograms, signatures, and what travels enciphered.
+#![tactic(auto)]
+
 mod cryptograms;
 mod keys;
 mod macs;

@@ -1,6 +1,8 @@
 // Answers tests of the cipher: each line of standard input is a test, `KIND KEY START TEXT`, and gets a line of standard output,
 // the result in hexadecimal digits or what is malformed. README.md lists the kinds. The quick engine ciphers, or with the argument
 // `--plain` the plain one.
+#![tactic(auto)]
+
 mod arguments;
 mod hex;
 mod line;

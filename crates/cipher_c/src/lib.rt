@@ -1,5 +1,7 @@
 // The cipher for C programs: triple DES in CBC and signatures, and single DES, on either engine, with keys and start values as byte areas
 // of any length. The engine is a number: 0 plain, 1 quick. Another number, or a wrong length, is answered 0 and changes nothing.
+#![tactic(auto)]
+
 ghost use Rattle.std.specs.Prelude.{◌≡◌};
 ghost use Rattle.cipher_c.specs.Calls.{called, cbc_call, signature_call, des_call, des_each_call};
 

@@ -1,4 +1,6 @@
 // The twelve commands on a card in hand.
+#![tactic(auto)]
+
 pub mod outcome;
 pub mod store;
 

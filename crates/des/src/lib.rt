@@ -1,4 +1,6 @@
 // The data encryption standard, straight from FIPS 46-3: one bit to an array element, the leftmost first.
+#![tactic(auto)]
+
 mod bits;
 mod permutations;
 mod rounds;

@@ -1,5 +1,7 @@
 // Frames: mark, kind, length and data, from a stream that is split anywhere. What all readers of such files share; each has its own kinds,
 // its own step and its own loop.
+#![tactic(auto)]
+
 mod front;
 mod next;
 mod output;

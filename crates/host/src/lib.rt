@@ -1,5 +1,7 @@
 // The purse for C programs: installation, start-up and command over byte areas, the session in an area of 128 bytes. The result is one
 // number: the answer, the response's length and the reported stores. `include/purse.h` declares the three functions.
+#![tactic(auto)]
+
 mod result;
 
 ghost use Rattle.std.specs.Prelude.{[], ◌≡◌};

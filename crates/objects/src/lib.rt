@@ -1,5 +1,7 @@
 // Data objects, administrative and operational status, key sets, what a command comes with and what it gives. Heads, sessions and
 // outcomes go by value.
+#![tactic(auto)]
+
 mod data;
 mod key_sets;
 mod outcomes;

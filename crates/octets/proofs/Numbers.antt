@@ -6,7 +6,7 @@ use native.Mathlib.Omega.{arith}
 use native.Mathlib.Nat.{div-add-mod', add-zero, add_assoc}
 use lib.ListN.{length}
 use lib.Seq.{get_or-append-add}
-use Rattle.octets.specs.Bytes.{AreBytes, byte_at, part, field}
+use Rattle.octets.specs.Bytes.{AreBytes, byte_at, part}
 use Rattle.octets.specs.Words.{word, word_of, word_at}
 use Rattle.octets.proofs.Parts.{part_at}
 

@@ -1,4 +1,6 @@
 // Byte strings, as the crates above use them: read, written, compared, and put together in a buffer by value; tests joined.
+#![tactic(auto)]
+
 pub mod buffer;
 pub mod comparing;
 pub mod reading;

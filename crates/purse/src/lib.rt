@@ -1,4 +1,6 @@
 // The purse: installation, start-up and command on lent memory. Each call is one equation with its definition in `purse_spec`.
+#![tactic(auto)]
+
 pub mod calls;
 mod commanding;
 mod installation;

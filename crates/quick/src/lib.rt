@@ -1,5 +1,7 @@
 // The quick engine of DES, on words where the plain engine has lists of bits. Each selection function is joined with the permutation
 // behind it in one table of 512 words; the round keys of a key are 16 words. The caller makes the tables once and lends them.
+#![tactic(auto)]
+
 mod bytes;
 mod key_table;
 mod permutations;

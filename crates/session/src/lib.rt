@@ -1,4 +1,6 @@
 // The session: a value that each call takes and hands back.
+#![tactic(auto)]
+
 pub mod access;
 mod codes;
 mod packing;

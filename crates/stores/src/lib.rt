@@ -1,5 +1,7 @@
 // Single-byte stores under a limit, over any memory. `room` is the number of stores that the run may still make: a store is made where
 // there is room, and each writer hands back the room that its stores leave.
+#![tactic(auto)]
+
 ghost use Rattle.std.specs.Prelude.{◌≡◌, [], ◌∷◌, ◌-◌, ◌<◌, length, set};
 ghost use Rattle.stores.specs.Stores.{writes, leaves};
 
