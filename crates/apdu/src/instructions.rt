@@ -3,7 +3,7 @@ ghost use Rattle.std.specs.Prelude.{◌≡◌};
 ghost use Rattle.apdu.specs.Instructions.{of00, of80, of84, of94, instruction};
 
 // The commands that carry no C-MAC, or, as EXTERNAL AUTHENTICATE, have a rule of their own for it.
-#[derive(Drop)]
+#[derive(Clone, Copy)]
 pub enum Plain {
     Select,
     InitializeUpdate,
@@ -14,7 +14,7 @@ pub enum Plain {
 }
 
 // The commands whose data end in a C-MAC.
-#[derive(Drop)]
+#[derive(Clone, Copy)]
 pub enum Signed {
     PutKey,
     PinChange,
@@ -24,7 +24,7 @@ pub enum Signed {
     PutData,
 }
 
-#[derive(Drop)]
+#[derive(Clone, Copy)]
 pub enum Instruction {
     IsPlain(Plain),
     IsSigned(Signed),

@@ -3,7 +3,7 @@ ghost use Rattle.std.specs.Prelude.{◌≡◌};
 ghost use Rattle.apdu.specs.Parsing.{parsed};
 
 // The header of a command; its data are the `lc` bytes from byte 6 on.
-#[derive(Drop)]
+#[derive(Clone, Copy)]
 pub struct Apdu {
     pub cla: u8,
     pub ins: u8,
@@ -12,7 +12,7 @@ pub struct Apdu {
     pub lc: u8,
 }
 
-#[derive(Drop)]
+#[derive(Clone, Copy)]
 pub enum Parsed {
     Command(Apdu),
     WrongLength,

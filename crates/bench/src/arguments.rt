@@ -7,7 +7,7 @@ use octets::{byte_at, same};
 use tdes::Engine;
 
 // What one argument is. Unknown: it starts with a dash and is no switch.
-#[derive(Drop)]
+#[derive(Clone, Copy)]
 pub enum Word {
     Plain,
     Help,
@@ -16,14 +16,14 @@ pub enum Word {
 }
 
 // The files from an argument on, by an engine.
-#[derive(Drop)]
+#[derive(Clone, Copy)]
 pub struct Order {
     pub engine: Engine,
     pub first: usize,
 }
 
 // What is asked for: standard input, as no file is named; the files; the usage; or nothing, as an argument is refused.
-#[derive(Drop)]
+#[derive(Clone, Copy)]
 pub enum Asked {
     Input(Engine),
     Files(Order),

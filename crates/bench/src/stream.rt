@@ -10,7 +10,7 @@ use tdes::Engine;
 
 // How many of the bytes in hand are used, whether more can be used at once, whether the file goes on, whether all lines were written, and
 // the session.
-#[derive(Drop)]
+#[derive(Clone, Copy)]
 struct Hand {
     used: usize,
     again: bool,
@@ -20,7 +20,7 @@ struct Hand {
 }
 
 // How many bytes are in hand, whether the file goes on, whether all lines were written, and the session.
-#[derive(Drop)]
+#[derive(Clone, Copy)]
 struct Kept {
     have: usize,
     on: bool,

@@ -20,7 +20,7 @@ use tdes::Engine;
 pub const AREA_SIZE: usize = 32;
 
 // How many bytes the line of a frame has, and the session behind its call.
-#[derive(Drop)]
+#[derive(Clone, Copy)]
 pub struct Printed {
     pub written: usize,
     pub session: Session,

@@ -20,7 +20,7 @@ use tdes::Engine;
 pub const LONGEST_LINE: usize = 69;
 
 // How many bytes were used and written, how it goes on, and the session behind the last call.
-#[derive(Drop)]
+#[derive(Clone, Copy)]
 pub struct Turned {
     pub used: usize,
     pub written: usize,
@@ -29,7 +29,7 @@ pub struct Turned {
 }
 
 // How many bytes were used and written so far, and the session behind the last call.
-#[derive(Drop)]
+#[derive(Clone, Copy)]
 pub struct Batched {
     pub used: usize,
     pub written: usize,

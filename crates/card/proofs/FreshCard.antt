@@ -15,15 +15,13 @@ use Rattle.card.specs.declared.head.Fixed.{Fixed}
 use Rattle.card.specs.declared.head.Keys.{Keys}
 use Rattle.card.specs.declared.log.Record.{Record}
 use Rattle.card.specs.Log.{void}
-use Rattle.card.specs.Keys.{no_keys, odd_keys}
-use Rattle.card.specs.Card.{no_key_set, no_parameters, no_purse, fresh_head, fresh}
+use Rattle.card.specs.Card.{no_keys, no_key_set, no_parameters, no_purse, fresh_head, fresh}
 use Rattle.card.specs.Proper.{fixed_tests, aid_ok, keys_ok, bank_ok, agent_ok, unset, parameter_tests, purse_tests, pin_ok, state_tests, proper_tests, SizedKeys, SizedHead, SizedRecord, Proper}
 
 -- what installation asks of its data
 pub record Installable (fixed : Fixed) (aid : Aid) (admin : Keys) : Type 0 where
   pub bytes : Octets 16 aid.bytes
   pub keys : SizedKeys admin
-  pub odd : odd_keys admin ≡ true
   pub named : aid_ok aid ≡ true
   pub tests : all_true (fixed_tests fixed) ≡ true
 
@@ -88,7 +86,7 @@ module _ (fixed : Fixed) (aid : Aid) (admin : Keys) (q : Installable fixed aid a
 
   fresh_true : all_true (proper_tests (fresh_head fixed aid admin)) ≡ true
   unfolding proper_tests fresh_head
-  fresh_true = all_true_lem (proper_tests (fresh_head fixed aid admin)) (q.tests, (q.odd, (purse_true, (pin_true, (state_true, tt)))))
+  fresh_true = all_true_lem (proper_tests (fresh_head fixed aid admin)) (q.tests, (purse_true, (pin_true, (state_true, tt))))
 
   -- the fresh card of such data is proper
   pub fresh_proper : Proper (fresh fixed aid admin)

@@ -11,7 +11,6 @@ use native.Mathlib.Nat.{div-div-eq-div-mul, div-eq_of_lt, lt_of_not-le}
 use lib.Count.{ones, ones_step}
 use lib.Dec.{eqb}
 use lib.ListN.{length}
-use Rattle.octets.specs.Choice.{pick}
 use Rattle.octets.specs.Bytes.{AreBytes, Octets, byte_at}
 use Rattle.octets.specs.Tests.{all_true}
 use Rattle.octets.proofs.Conditions.{each, and_both}
@@ -19,7 +18,8 @@ use Rattle.octets.proofs.Equality.{fails}
 use Rattle.octets.proofs.Rules.{pick_holds}
 use Rattle.card.specs.declared.head.Keys.{Keys}
 use Rattle.card.specs.declared.keys.TakenKeys.{TakenKeys}
-use Rattle.card.specs.Keys.{key_bytes, keys_in, odd_parity, odd_keys, no_keys, take_keys, OddDigits, AllOdd, OddKeys, Takes}
+use Rattle.card.specs.Keys.{key_bytes, keys_in, odd_parity, odd_keys, take_keys, OddDigits, AllOdd, OddKeys, Takes}
+use Rattle.card.specs.Card.{no_keys}
 use Rattle.card.specs.Proper.{SizedKeys}
 use Rattle.card.proofs.Bytes.{keys_read, keys-sized, ThreeKeys, three_keys}
 

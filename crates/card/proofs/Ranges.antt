@@ -52,11 +52,11 @@ module _ (h : Head) (e : all_true (proper_tests h) ≡ true) where
 
   purse-all : all_true (purse_tests h.purse) ≡ true
   unfolding proper_tests
-  purse-all = (each (proper_tests h) e).1.1.0
+  purse-all = (each (proper_tests h) e).1.0
 
   state-all : all_true (state_tests h) ≡ true
   unfolding proper_tests
-  state-all = (each (proper_tests h) e).1.1.1.1.0
+  state-all = (each (proper_tests h) e).1.1.1.0
 
   pub size_range : Size h.fixed.logsize
   unfolding fixed_tests

@@ -14,9 +14,7 @@ use Rattle.octets.proofs.Rules.{pick_holds}
 use Rattle.card.specs.declared.head.KeySet.{KeySet}
 use Rattle.card.specs.declared.head.Head.{Head}
 use Rattle.card.specs.Proper.{fixed_tests, aid_ok, keys_ok, bank_ok, agent_ok, unset, parameter_tests, purse_tests, pin_ok, state_tests, proper_tests, SizedKeys, SizedHead}
-use Rattle.card.specs.Keys.{OddKeys}
 use Rattle.card.specs.Ranges.{NoKeys, InRanges}
-use Rattle.card.proofs.Parity.{keys_told, keys_pass}
 use Rattle.card.proofs.Pins.{block_formed, formed_block}
 
 -- ---- tests and what they tell
@@ -42,22 +40,16 @@ module _ (h : Head) (z : SizedHead h) where
   after-aid : (n : ℕ) (s : List ℕ) → length s ≡ 16 → length (drop n s) ≡ 16 - n
   after-aid n s e = length-drop n s ∙ ap (λ (k : ℕ). k - n) e
 
-  -- a key set that is undefined
-  unset_told : (k : KeySet) → SizedKeys k.keys → keys_ok k ≡ true → k.defined ≡ false → NoKeys k
+  keys_told : (k : KeySet) → SizedKeys k.keys → keys_ok k ≡ true → k.defined ≡ false → NoKeys k
   unfolding keys_ok
-  unset_told k y e n =
-      let t = each (all_zero k.keys.enc ∷ all_zero k.keys.mac ∷ all_zero k.keys.dek ∷ []) (rw n at e) in
+  keys_told k y e n =
+      let t = each (all_zero k.keys.enc ∷ all_zero k.keys.mac ∷ all_zero k.keys.dek ∷ []) (second_of k.defined _ e n) in
       record { enc = zeros_of k.keys.enc y.enc.size t.0; mac = zeros_of k.keys.mac y.mac.size t.1.0; dek = zeros_of k.keys.dek y.dek.size t.1.1.0 }
 
-  -- or defined
-  set_told : (k : KeySet) → SizedKeys k.keys → keys_ok k ≡ true → k.defined ≡ true → OddKeys k.keys
+  keys_pass : (k : KeySet) → (k.defined ≡ false → NoKeys k) → keys_ok k ≡ true
   unfolding keys_ok
-  set_told k y e n = keys_told k.keys y (rw n at e)
-
-  set-passes : (k : KeySet) → SizedKeys k.keys → (k.defined ≡ false → NoKeys k) → (k.defined ≡ true → OddKeys k.keys) → keys_ok k ≡ true
-  unfolding keys_ok
-  set-passes k y f g =
-      pick_holds (λ (b : Bool). b ≡ true) k.defined _ _ (λ n. keys_pass k.keys y (g n))
+  keys_pass k f =
+      either_of k.defined _
       (λ n. let y = f n in all_true_lem (all_zero k.keys.enc ∷ all_zero k.keys.mac ∷ all_zero k.keys.dek ∷ []) (all-zeros 16 k.keys.enc y.enc, (all-zeros 16 k.keys.mac y.mac, (all-zeros 16 k.keys.dek y.dek, tt))))
 
   -- proper cards are in the ranges
@@ -66,13 +58,13 @@ module _ (h : Head) (z : SizedHead h) where
   proper_ranges e =
       let t = each (proper_tests h) e in
       let f = each (fixed_tests h.fixed) t.0 in
-      let u = each (purse_tests h.purse) t.1.1.0 in
+      let u = each (purse_tests h.purse) t.1.0 in
       let i = h.purse.aid in
       let d = each (leb 5 i.size ∷ leb i.size 16 ∷ all_zero (drop i.size i.bytes) ∷ []) u.0 in
       let q = h.purse.parameters in
       let p = each (parameter_tests q) u.1.0 in
       let a = each ((eqb q.agent.size 0 || leb 5 q.agent.size) ∷ leb q.agent.size 16 ∷ all_zero (drop q.agent.size q.agent.bytes) ∷ []) p.1.1.1.0 in
-      let s = each (state_tests h) t.1.1.1.1.0 in
+      let s = each (state_tests h) t.1.1.1.0 in
       record {
         aid = (leb-true _ _ d.0, leb-true _ _ d.1.0);
         aid-after = zeros_of _ (after-aid i.size i.bytes z.purse.aid.size) d.1.1.0;
@@ -99,13 +91,10 @@ module _ (h : Head) (z : SizedHead h) where
               agent = eqb-true _ _ b.1.1.1.1.1.0;
             };
         keyed = λ n. let k = each (h.purse.debit.defined ∷ h.purse.credit.defined ∷ []) (second_of (not q.personalized) _ u.1.1.1.1.0 (ap not n)) in (k.0, k.1.0);
-        debit = unset_told h.purse.debit z.purse.debit u.1.1.0;
-        credit = unset_told h.purse.credit z.purse.credit u.1.1.1.0;
-        odd-debit = set_told h.purse.debit z.purse.debit u.1.1.0;
-        odd-credit = set_told h.purse.credit z.purse.credit u.1.1.1.0;
-        odd-admin = keys_told h.shared.admin z.admin t.1.0;
-        pin = λ n. let d = formed_block h.pin.block z.pin.size (rw n at t.1.1.1.0) in record { digits = _; each = d.0; block = d.1 };
-        no_pin = λ n. zeros_of _ z.pin.size (rw n at t.1.1.1.0);
+        debit = keys_told h.purse.debit z.purse.debit u.1.1.0;
+        credit = keys_told h.purse.credit z.purse.credit u.1.1.1.0;
+        pin = λ n. let d = formed_block h.pin.block z.pin.size (rw n at t.1.1.0) in record { digits = _; each = d.0; block = d.1 };
+        no_pin = λ n. zeros_of _ z.pin.size (rw n at t.1.1.0);
       }
 
   -- and what is in the ranges is proper
@@ -141,16 +130,8 @@ module _ (h : Head) (z : SizedHead h) where
       (λ n. let k = r.keyed (not-false _ n) in all_true_lem (h.purse.debit.defined ∷ h.purse.credit.defined ∷ []) (k.0, (k.1, tt)))
       in
       let purse : all_true (purse_tests h.purse) ≡ true =
-      all_true_lem (purse_tests h.purse) (
-        aid,
-        (
-          parameters,
-          (
-            set-passes h.purse.debit z.purse.debit r.debit r.odd-debit,
-            (set-passes h.purse.credit z.purse.credit r.credit r.odd-credit, (keyed, (le-leb _ _ r.balance, tt))),
-          ),
-        ),
-      )
+      all_true_lem (purse_tests h.purse)
+      (aid, (parameters, (keys_pass h.purse.debit r.debit, (keys_pass h.purse.credit r.credit, (keyed, (le-leb _ _ r.balance, tt))))))
       in
       let pin : pin_ok h.pin ≡ true =
       pick_holds (λ (b : Bool). b ≡ true) h.pin.defined _ _
@@ -159,4 +140,4 @@ module _ (h : Head) (z : SizedHead h) where
       let state : all_true (state_tests h) ≡ true =
       all_true_lem (state_tests h) (le-leb _ _ r.tries, (le-leb _ _ r.number, (either_of q.personalized _ (λ n. eq-eqb _ _ (r.blank n).maxnumber), tt)))
       in
-      all_true_lem (proper_tests h) (fixed, (keys_pass h.shared.admin z.admin r.odd-admin, (purse, (pin, (state, tt)))))
+      all_true_lem (proper_tests h) (fixed, (purse, (pin, (state, tt))))

@@ -11,7 +11,6 @@ use Rattle.card.specs.declared.head.Purse.{Purse}
 use Rattle.card.specs.declared.head.Head.{Head}
 use Rattle.card.specs.declared.log.Record.{Record}
 use Rattle.card.specs.Log.{void}
-use Rattle.card.specs.Keys.{no_keys}
 
 -- the head, and the log
 pub record Card : Type 0 where
@@ -19,6 +18,10 @@ pub record Card : Type 0 where
   pub log : List Record
 
 -- ---- 01: "All else starts undefined and zero, tries full."
+
+-- keys of zeros
+abbrev pub no_keys : Keys
+no_keys = record { enc = zeros 16; mac = zeros 16; dek = zeros 16 }
 
 -- an undefined key set
 abbrev pub no_key_set : KeySet

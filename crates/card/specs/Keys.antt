@@ -3,9 +3,10 @@
 use Rattle.std.specs.Prelude.{Bool, true, false, ◌&&◌, List, [], ◌∷◌, ◌++◌, ◌≡◌, ℕ, ◌+◌, ◌/◌, ◌%◌, ◌<◌, eqb}
 use Rattle.std.specs.Int.Count.{ones}
 use Rattle.octets.specs.Choice.{pick}
-use Rattle.octets.specs.Bytes.{zeros, byte_at, field}
+use Rattle.octets.specs.Bytes.{byte_at, field}
 use Rattle.card.specs.declared.head.Keys.{Keys}
 use Rattle.card.specs.declared.keys.TakenKeys.{TakenKeys}
+use Rattle.card.specs.Card.{no_keys}
 
 -- how many bytes they have
 abbrev pub keys_size : ℕ
@@ -18,10 +19,6 @@ key_bytes k = k.enc ++ k.mac ++ k.dek
 -- the keys that bytes say
 unfoldable pub keys_in : List ℕ → Keys
 keys_in l = record { enc = field l 0 16; mac = field l 16 16; dek = field l 32 16 }
-
--- keys of zeros
-abbrev pub no_keys : Keys
-no_keys = record { enc = zeros 16; mac = zeros 16; dek = zeros 16 }
 
 -- ---- parity
 

@@ -1,7 +1,7 @@
 -- Which cards there are: document 01, "Readable": "Every card within the ranges below, with tries, balance and number at most
 -- their maxima, parameters and log zero until personalized, set 3 defined, and sets 1 and 2 once personalized". The ranges are
--- those of "What the card keeps". Set 3 is defined by its type. Document 02 adds that a record of the log is void or has a key set from 01 to
--- 03 (request 4), and that "memory with another key in a defined set reads as no card" (request 5): the keys have odd parity. Assumes nothing.
+-- those of "What the card keeps". Set 3 is defined by its type. Document 02, request 4, adds that a record of the log is void or has a
+-- key set from 01 to 03. Assumes nothing.
 use Rattle.std.specs.Prelude.{◌≡◌, Bool, true, false, not, ◌&&◌, ◌||◌, List, [], ◌∷◌, ◌⊎◌, ℕ, ◌≤◌, ◌<◌, leb, eqb, length, get_or, drop}
 use Rattle.octets.specs.Choice.{pick}
 use Rattle.octets.specs.Bytes.{Octets, all_zero}
@@ -17,7 +17,6 @@ use Rattle.card.specs.declared.head.Pin.{Pin}
 use Rattle.card.specs.declared.head.Head.{Head}
 use Rattle.card.specs.declared.log.Record.{Record}
 use Rattle.card.specs.Log.{void, record_bytes}
-use Rattle.card.specs.Keys.{odd_keys}
 use Rattle.card.specs.Card.{Card}
 use Rattle.card.specs.Pin.{well_formed}
 
@@ -31,11 +30,9 @@ fixed_tests f = leb 1 f.logsize ∷ leb f.logsize 50 ∷ leb 3 f.maxtries ∷ le
 unfoldable pub aid_ok : Aid → Bool
 aid_ok a = all_true (leb 5 a.size ∷ leb a.size 16 ∷ all_zero (drop a.size a.bytes) ∷ [])
 
--- a defined key set has odd parity, an undefined one is zero
+-- an undefined key set is zero
 unfoldable pub keys_ok : KeySet → Bool
-keys_ok k =
-    pick k.defined (odd_keys k.keys)
-    (all_true (all_zero k.keys.enc ∷ all_zero k.keys.mac ∷ all_zero k.keys.dek ∷ []))
+keys_ok k = k.defined || all_true (all_zero k.keys.enc ∷ all_zero k.keys.mac ∷ all_zero k.keys.dek ∷ [])
 
 -- undefined bank information is zero
 unfoldable pub bank_ok : Bank → Bool
@@ -75,11 +72,9 @@ state_tests h =
     ∷ leb h.state.number h.shared.maxnumber
     ∷ (h.purse.parameters.personalized || eqb h.shared.maxnumber 0) ∷ []
 
--- all of them, key set 3 among them
+-- all of them
 unfoldable pub proper_tests : Head → List Bool
-proper_tests h =
-    all_true (fixed_tests h.fixed) ∷ odd_keys h.shared.admin ∷ all_true (purse_tests h.purse) ∷ pin_ok h.pin
-    ∷ all_true (state_tests h) ∷ []
+proper_tests h = all_true (fixed_tests h.fixed) ∷ all_true (purse_tests h.purse) ∷ pin_ok h.pin ∷ all_true (state_tests h) ∷ []
 
 -- ---- the tests of a log
 

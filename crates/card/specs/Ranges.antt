@@ -1,13 +1,11 @@
 -- Which heads there are, by numbers and bytes: document 01, "Readable": "Every card within the ranges below, with tries, balance and
--- number at most their maxima, parameters .. zero until personalized, set 3 defined, and sets 1 and 2 once personalized", and document 02,
--- request 5: the keys of a defined set have an odd number of ones in each byte. The laws on `Proper`'s tests are stated with it; the log's
--- rules are fields of `Proper` itself, and set 3 is defined by its type. Assumes nothing.
+-- number at most their maxima, parameters .. zero until personalized, set 3 defined, and sets 1 and 2 once personalized". The laws on
+-- `Proper`'s tests are stated with it; the log's rules are fields of `Proper` itself, and set 3 is defined by its type. Assumes nothing.
 use Rattle.std.specs.Prelude.{true, false, ◌≡◌, ℕ, ◌-◌, ◌≤◌, List, drop}
 use Rattle.octets.specs.Bytes.{zeros}
 use Rattle.card.specs.declared.head.KeySet.{KeySet}
 use Rattle.card.specs.declared.head.Pin.{Pin}
 use Rattle.card.specs.declared.head.Head.{Head}
-use Rattle.card.specs.Keys.{OddKeys}
 use Rattle.card.specs.Pin.{block_of, Digits}
 
 -- an undefined key set is zero
@@ -56,9 +54,5 @@ pub record InRanges (h : Head) : Type 0 where
   pub keyed : h.purse.parameters.personalized ≡ true → (h.purse.debit.defined ≡ true) × (h.purse.credit.defined ≡ true)
   pub debit : h.purse.debit.defined ≡ false → NoKeys h.purse.debit
   pub credit : h.purse.credit.defined ≡ false → NoKeys h.purse.credit
-  -- "an odd number of ones in each key byte"
-  pub odd-debit : h.purse.debit.defined ≡ true → OddKeys h.purse.debit.keys
-  pub odd-credit : h.purse.credit.defined ≡ true → OddKeys h.purse.credit.keys
-  pub odd-admin : OddKeys h.shared.admin
   pub pin : h.pin.defined ≡ true → HasDigits h.pin
   pub no_pin : h.pin.defined ≡ false → h.pin.block ≡ zeros 8

@@ -6,7 +6,7 @@ use crate::head::Head;
 use crate::log::{Record, void};
 
 // The head afterwards; whether a log record is made, and the record; whether block C is written.
-#[derive(Drop)]
+#[derive(Clone, Copy)]
 pub struct Change {
     pub head: Head,
     pub logs: bool,

@@ -1,10 +1,19 @@
 // The fresh card's head.
 ghost use Rattle.std.specs.Prelude.{◌≡◌};
-ghost use Rattle.card.specs.Keys.{no_keys};
-ghost use Rattle.card.specs.Card.{no_key_set, no_parameters, no_purse, no_aid, no_fixed, fresh_head};
+ghost use Rattle.card.specs.Card.{no_keys, no_key_set, no_parameters, no_purse, no_aid, no_fixed, fresh_head};
 
 use crate::head::{Aid, Bank, Fixed, Head, KeySet, Keys, Parameters, Pin, Purse, Shared, State};
-use crate::keys::no_keys;
+
+// Keys of zeros.
+pub fn no_keys() -> Keys
+    ensures { result ≡ no_keys }
+{
+    Keys {
+        enc: [0; 16],
+        mac: [0; 16],
+        dek: [0; 16],
+    }
+}
 
 // An undefined key set.
 fn no_key_set() -> KeySet

@@ -1,21 +1,21 @@
 // A card without its log, by value. What is undefined is zero, so that equal cards are equal.
 
 // An AID: `size` bytes and zeros after them.
-#[derive(Drop)]
+#[derive(Clone, Copy)]
 pub struct Aid {
     pub size: u8,
     pub bytes: [u8; 16],
 }
 
 // What installation fixes for the whole card: how many records the log has, and how many tries a PIN has.
-#[derive(Drop)]
+#[derive(Clone, Copy)]
 pub struct Fixed {
     pub logsize: u8,
     pub maxtries: u8,
 }
 
 // Three keys: S-ENC, S-MAC and DEK.
-#[derive(Drop)]
+#[derive(Clone, Copy)]
 pub struct Keys {
     pub enc: [u8; 16],
     pub mac: [u8; 16],
@@ -23,28 +23,28 @@ pub struct Keys {
 }
 
 // A key set that may be undefined.
-#[derive(Drop)]
+#[derive(Clone, Copy)]
 pub struct KeySet {
     pub defined: bool,
     pub keys: Keys,
 }
 
 // Tag 05 and key set 3, which is always defined.
-#[derive(Drop)]
+#[derive(Clone, Copy)]
 pub struct Shared {
     pub maxnumber: u16,
     pub admin: Keys,
 }
 
 // Tag 06.
-#[derive(Drop)]
+#[derive(Clone, Copy)]
 pub struct Bank {
     pub defined: bool,
     pub value: [u8; 16],
 }
 
 // Tags 01 to 04, 06 and 07; the agent's AID is undefined where its size is 0.
-#[derive(Drop)]
+#[derive(Clone, Copy)]
 pub struct Parameters {
     pub personalized: bool,
     pub identifier: [u8; 4],
@@ -56,7 +56,7 @@ pub struct Parameters {
 }
 
 // What belongs to one purse: its AID, its parameters, key set 1, key set 2 and tag 15.
-#[derive(Drop)]
+#[derive(Clone, Copy)]
 pub struct Purse {
     pub aid: Aid,
     pub parameters: Parameters,
@@ -66,20 +66,20 @@ pub struct Purse {
 }
 
 // The PIN, as its block.
-#[derive(Drop)]
+#[derive(Clone, Copy)]
 pub struct Pin {
     pub defined: bool,
     pub block: [u8; 8],
 }
 
 // Tags 14 and 16.
-#[derive(Drop)]
+#[derive(Clone, Copy)]
 pub struct State {
     pub number: u16,
     pub tries: u8,
 }
 
-#[derive(Drop)]
+#[derive(Clone, Copy)]
 pub struct Head {
     pub fixed: Fixed,
     pub shared: Shared,

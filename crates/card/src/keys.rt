@@ -1,14 +1,15 @@
 // Three keys from their 48 bytes, and their parity.
 ghost use Rattle.std.specs.Prelude.{◌≡◌};
-ghost use Rattle.card.specs.Keys.{keys_in, no_keys, odd_parity, odd_keys, Takes};
+ghost use Rattle.card.specs.Keys.{keys_in, odd_parity, odd_keys, Takes};
 
+use crate::fresh::no_keys;
 use crate::head::Keys;
 
 // How many bytes three keys have.
 pub const KEYS_SIZE: usize = 48;
 
 // Keys taken from bytes, zeros where they were refused.
-#[derive(Drop)]
+#[derive(Clone, Copy)]
 pub struct TakenKeys {
     pub ok: bool,
     pub keys: Keys,
@@ -25,17 +26,6 @@ pub fn keys_in(s: &[u8]) -> Keys
         enc: enc,
         mac: mac,
         dek: dek,
-    }
-}
-
-// Keys of zeros.
-pub fn no_keys() -> Keys
-    ensures { result ≡ no_keys }
-{
-    Keys {
-        enc: [0; 16],
-        mac: [0; 16],
-        dek: [0; 16],
     }
 }
 

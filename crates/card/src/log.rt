@@ -11,7 +11,7 @@ pub const KEYSET_AT: usize = 24;
 
 // Number, currency, amount (a debit's in two's complement), the new balance, the context, and the key set that opened the channel; 0 in a
 // void record.
-#[derive(Drop)]
+#[derive(Clone, Copy)]
 pub struct Record {
     pub number: u16,
     pub currency: u16,

@@ -5,7 +5,6 @@ ghost use Rattle.octets.specs.Bytes.{all_zero};
 ghost use Rattle.card.specs.Proper.{fixed_tests, aid_ok, keys_ok, bank_ok, agent_ok, unset, parameter_tests, purse_tests, pin_ok, state_tests, proper_tests};
 
 use crate::head::{Aid, Bank, Fixed, Head, KeySet, Parameters, Pin, Purse};
-use crate::keys::odd_keys;
 use crate::pin::well_formed;
 use octets::{all_true, either};
 
@@ -42,14 +41,14 @@ fn aid_ok(a: Aid) -> bool
     all_true(&tests)
 }
 
-// A defined key set has odd parity, an undefined one is zero.
+// An undefined key set is zero.
 fn keys_ok(k: KeySet) -> bool
     ensures { result ≡ keys_ok k }
 {
-    let keys = k.keys;
     if k.defined {
-        return odd_keys(keys);
+        return true;
     }
+    let keys = k.keys;
     let enc = keys.enc;
     let mac = keys.mac;
     let dek = keys.dek;
@@ -176,15 +175,8 @@ pub fn is_proper(h: Head) -> bool
     ensures { result ≡ all_true (proper_tests h) }
 {
     let fixed = h.fixed;
-    let admin = h.shared.admin;
     let purse = h.purse;
     let pin = h.pin;
-    let tests = [
-        fixed_ok(fixed),
-        odd_keys(admin),
-        purse_ok(purse),
-        pin_ok(pin),
-        state_ok(h),
-    ];
+    let tests = [fixed_ok(fixed), purse_ok(purse), pin_ok(pin), state_ok(h)];
     all_true(&tests)
 }

@@ -2,7 +2,7 @@
 use octets::same;
 
 // What the arguments ask for.
-#[derive(Drop)]
+#[derive(Clone, Copy)]
 pub enum Asked {
     Quick,
     Plain,

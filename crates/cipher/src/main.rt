@@ -40,7 +40,7 @@ fn push_all(engine: Engine, bytes: &[u8], line: &mut [u8], used: usize) -> usize
 }
 
 // How many bytes of the next line are known, and whether the input has ended.
-#[derive(Drop)]
+#[derive(Clone, Copy)]
 struct Begun {
     used: usize,
     last: bool,

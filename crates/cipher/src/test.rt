@@ -3,7 +3,7 @@ use crate::hex;
 use tdes::Engine;
 
 // What two-key triple DES is asked for; `true` where it deciphers.
-#[derive(Drop)]
+#[derive(Clone, Copy)]
 enum Mode {
     Ecb(bool),
     Cbc(bool),
@@ -11,7 +11,7 @@ enum Mode {
 }
 
 // A DES block, deciphered or not, so many times; or a mode of triple DES.
-#[derive(Drop)]
+#[derive(Clone, Copy)]
 enum Kind {
     Des(bool, usize),
     Triple(Mode),

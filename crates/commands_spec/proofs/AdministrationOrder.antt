@@ -16,14 +16,11 @@ use Rattle.octets.proofs.Equality.{fails}
 use Rattle.octets.proofs.Rules.{pick_holds}
 use Rattle.des_spec.specs.Des.{decipher}
 use Rattle.des_spec.specs.Modes.{ecb_text}
-use Rattle.des_spec.proofs.Texts.{length-ecb_text, bytes-ecb_text}
+use Rattle.des_spec.proofs.Texts.{length-ecb_text}
 use Rattle.card.specs.declared.head.KeySet.{KeySet}
 use Rattle.card.specs.declared.head.Head.{Head}
-use Rattle.card.specs.declared.keys.TakenKeys.{TakenKeys}
-use Rattle.card.specs.Keys.{take_keys, AllOdd}
 use Rattle.card.specs.Card.{Card}
 use Rattle.card.specs.Pin.{well_formed}
-use Rattle.card.proofs.Parity.{taken-odd, odd-taken}
 use Rattle.card.proofs.Pins.{block_formed, formed_block}
 use Rattle.session.specs.declared.Set.{Set}
 use Rattle.session.specs.declared.Level.{Level}
@@ -62,14 +59,6 @@ pin_tells dek body long = (
       record { digits = _; each = f.0; block = f.1 },
   λ k. rw k.block (block_formed k.digits k.each),
 )
-
--- keys are taken exactly where each of their bytes is odd
-parity_tells : (dek body : List ℕ) → AreBytes body
-    → ((take_keys (ecb_text decipher dek body)).ok ≡ true → AllOdd 48 (ecb_text decipher dek body))
-    × (AllOdd 48 (ecb_text decipher dek body) → (take_keys (ecb_text decipher dek body)).ok ≡ true)
-parity_tells dek body bytes =
-    let f : AreBytes (ecb_text decipher dek body) = (bytes-ecb_text decipher dek body (record { at = bytes })).at in
-    (taken-odd (ecb_text decipher dek body) f, λ d. ap (λ (r : TakenKeys). r.ok) (odd-taken (ecb_text decipher dek body) f d))
 
 -- ---- PUT DATA
 
@@ -196,6 +185,19 @@ module _ (h : Head) (dek body : List ℕ) where
 -- ---- the commands as sent
 
 module _ (c : Card) (s : Session) (set : Set) (p : ℕ) (l : Level) (le random : List ℕ) (short : length le ≤ 1) (o : InChannel s l) (v : LevelOf set p l) where
+  -- PUT KEY of a set 1 to 3
+  pub put_key_order : (n : ℕ) (body : List ℕ) → 1 ≤ n → n ≤ 3 → length body ≡ 48 → put_key_rules set (respond c s (signed_command s 0x84 0xD8 0x00 n body le) random).status
+  unfolding instruction of84 is_set signed_parameters signed_length signed_of put_key_of put_key_status done chained
+  put_key_order n body low high long =
+      let a = set-access set p l v in
+      let k = admin_tells set in
+      rw (
+        reaches_signed c s random PutKey l 0x84 0xD8 0x00 n body le short o refl (rw (le-leb 1 n low, le-leb n 3 high)) (rw long) a.1,
+        o.level,
+        a.0,
+      )
+      (subst (put_key_rules set) (sym (judged-word _ _ _ _ refl)) (row (ltb (access_of set) ADMIN) 0x6982 0x9000 k.0 k.1 accepted))
+
   -- UNBLOCK
   pub unblock_order : unblock_rules c.head set (respond c s (signed_command s 0x84 0x24 0x00 0x00 [] le) random).status
   unfolding instruction of84 are signed_parameters signed_length signed_of pin_change_of pin_status done chained
@@ -208,24 +210,6 @@ module _ (c : Card) (s : Session) (set : Set) (p : ℕ) (l : Level) (le random :
 
   -- with the DEK of the channel's set
   module _ (number : ℕ) (keys : KeySet) (m : Numbered c.head keys number set) where
-    -- PUT KEY of a set 1 to 3
-    pub put_key_order : (n : ℕ) (body : List ℕ) → 1 ≤ n → n ≤ 3 → length body ≡ 48 → AreBytes body
-        → put_key_rules set keys.keys.dek body (respond c s (signed_command s 0x84 0xD8 0x00 n body le) random).status
-    unfolding instruction of84 is_set signed_parameters signed_length signed_of put_key_of put_key_status done chained received
-    put_key_order n body low high long bytes =
-        let a = set-access set p l v in
-        let k = admin_tells set in
-        let t = parity_tells keys.keys.dek body bytes in
-        rw (
-          reaches_signed c s random PutKey l 0x84 0xD8 0x00 n body le short o refl (rw (le-leb 1 n low, le-leb n 3 high)) (rw long) a.1,
-          o.level,
-          a.0,
-          set-dek m v,
-        )
-        (subst (put_key_rules set keys.keys.dek body) (sym (judged-word _ _ _ _ refl))
-        (row (ltb (access_of set) ADMIN) 0x6982 _ k.0 k.1
-        (lacking (take_keys (ecb_text decipher keys.keys.dek body)).ok 0x6A80 _ t.0 t.1 accepted)))
-
     -- PIN CHANGE
     pub pin_change_order : (body : List ℕ) → length body ≡ 8
         → pin_change_rules set keys.keys.dek body (respond c s (signed_command s 0x84 0x24 0x00 0x00 body le) random).status

@@ -8,7 +8,6 @@ use lib.Dec.{eqb}
 use Rattle.octets.specs.Tests.{all_true}
 use Rattle.octets.proofs.Conditions.{each, all_true_lem}
 use Rattle.card.specs.declared.head.Head.{Head}
-use Rattle.card.specs.Keys.{odd_keys}
 use Rattle.card.specs.Proper.{fixed_tests, aid_ok, keys_ok, bank_ok, agent_ok, unset, parameter_tests, purse_tests, pin_ok, state_tests, proper_tests}
 
 -- the ranges of a head's values
@@ -23,7 +22,6 @@ pub record Facts (h : Head) : Type 0 where
   pub blank : (h.purse.parameters.personalized || unset h.purse.parameters) ≡ true
   pub debit : keys_ok h.purse.debit ≡ true
   pub credit : keys_ok h.purse.credit ≡ true
-  pub admin : odd_keys h.shared.admin ≡ true
   pub keyed : (not h.purse.parameters.personalized || all_true (h.purse.debit.defined ∷ h.purse.credit.defined ∷ [])) ≡ true
   pub pin : pin_ok h.pin ≡ true
   pub tries : h.state.tries ≤ h.fixed.maxtries
@@ -37,9 +35,9 @@ pub facts : (h : Head) → all_true (proper_tests h) ≡ true → Facts h
 unfolding proper_tests parameter_tests purse_tests state_tests
 facts h e =
     let t = each (proper_tests h) e in
-    let q = each (purse_tests h.purse) t.1.1.0 in
+    let q = each (purse_tests h.purse) t.1.0 in
     let p = each (parameter_tests h.purse.parameters) q.1.0 in
-    let s = each (state_tests h) t.1.1.1.1.0 in
+    let s = each (state_tests h) t.1.1.1.0 in
     record {
       fixed = t.0;
       aid = q.0;
@@ -50,9 +48,8 @@ facts h e =
       blank = p.1.1.1.1.0;
       debit = q.1.1.0;
       credit = q.1.1.1.0;
-      admin = t.1.0;
       keyed = q.1.1.1.1.0;
-      pin = t.1.1.1.0;
+      pin = t.1.1.0;
       tries = leb-true _ _ s.0;
       balance = leb-true _ _ q.1.1.1.1.1.0;
       number = leb-true _ _ s.1.0;
@@ -66,4 +63,4 @@ facts_tests h f =
     let parameters = all_true_lem (parameter_tests h.purse.parameters) (le-leb _ _ f.maxbalance, (le-leb _ _ f.maxdebit, (f.bank, (f.agent, (f.blank, tt))))) in
     let purse = all_true_lem (purse_tests h.purse) (f.aid, (parameters, (f.debit, (f.credit, (f.keyed, (le-leb _ _ f.balance, tt)))))) in
     let state = all_true_lem (state_tests h) (le-leb _ _ f.tries, (le-leb _ _ f.number, (f.bare, tt))) in
-    all_true_lem (proper_tests h) (f.fixed, (f.admin, (purse, (f.pin, (state, tt)))))
+    all_true_lem (proper_tests h) (f.fixed, (purse, (f.pin, (state, tt))))

@@ -24,9 +24,9 @@ use Rattle.commands_spec.proofs.Steps.{Judged, rule}
 
 -- ---- the words
 
-pub put_key_judged : (level : ℕ) (odd : Bool) → Judged refusals (put_key_status level odd)
+pub put_key_judged : (level : ℕ) → Judged refusals (put_key_status level)
 unfolding put_key_status is_one refusals
-put_key_judged level odd = search rule depth 24
+put_key_judged level = search rule depth 24
 
 pub pin-judged : (unblock defined : Bool) (level : ℕ) (good : Bool) → Judged refusals (pin_status unblock defined level good)
 unfolding pin_status is_one refusals
@@ -53,14 +53,6 @@ unfolding data_status is_one refusals
 data_judged personalized locked level good undercut = search rule depth 24
 
 -- ---- what 9000 tells
-
--- PUT KEY has access and keys of odd parity
-pub put_key_passed : (level : ℕ) (odd : Bool) → put_key_status level odd ≡ 0x9000 → (ADMIN ≤ level) × (odd ≡ true)
-unfolding put_key_status
-put_key_passed level odd e =
-    let p = passed (ltb level ADMIN) 0x6982 _ 0x9000 e (λ z. omega arith) in
-    let q = passed (not odd) 0x6A80 0x9000 0x9000 p.1 (λ z. omega arith) in
-    (ltb-false level ADMIN p.0, not-false odd q.0)
 
 -- VERIFY PIN has a try left
 pub verify_tries : (personalized defined : Bool) (level tries : ℕ) → verify_status personalized defined level tries ≡ 0x9000 → 0 < tries

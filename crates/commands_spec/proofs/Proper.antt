@@ -19,13 +19,13 @@ use Rattle.card.specs.declared.head.Pin.{Pin}
 use Rattle.card.specs.declared.head.State.{State}
 use Rattle.card.specs.declared.head.Head.{Head}
 use Rattle.card.specs.Log.{void}
-use Rattle.card.specs.Keys.{take_keys}
+use Rattle.card.specs.Keys.{keys_in}
 use Rattle.card.specs.Card.{Card}
 use Rattle.card.specs.Pin.{well_formed}
 use Rattle.card.specs.Proper.{pin_ok, Proper}
 use Rattle.card.specs.Changes.{hot_change, changed, head_after, log_after, after}
 use Rattle.card.specs.Updates.{with_state, with_tries, with_pin, with_parameters, with_balance, with_purse}
-use Rattle.card.proofs.Parity.{taken-sized}
+use Rattle.card.proofs.Bytes.{keys-sized}
 use Rattle.session.specs.declared.Set.{Set}
 use Rattle.session.specs.declared.Set.TheVariants.{Debit, Credit, Admin}
 use Rattle.session.specs.declared.Session.{Session}
@@ -59,7 +59,7 @@ use Rattle.commands_spec.specs.PutData.{undercuts, put_data_status, put_data_of}
 use Rattle.commands_spec.specs.ReadRecord.{asked}
 use Rattle.commands_spec.specs.Respond.{plain_of, signed_of, respond, card_after}
 use Rattle.commands_spec.proofs.Steps.{decided_either, mac_of, Passed, Accepted, respond_holds}
-use Rattle.commands_spec.proofs.Judgements.{put_key_passed, complete_passed, pin_formed, store_passed, data_passed}
+use Rattle.commands_spec.proofs.Judgements.{complete_passed, pin_formed, store_passed, data_passed}
 use Rattle.commands_spec.proofs.SameElse.{Rest, keys-rest, same_itself, datum-same, all_same}
 use Rattle.commands_spec.proofs.Ways.{is_reader, plain_way}
 use Rattle.commands_spec.proofs.Readers.{none}
@@ -247,9 +247,9 @@ module _ (c : Card) (s : Session) (command random : List ℕ) (i : Sound c s com
         decided_either A _ _ _ _
         (λ e.
         let dek = dek_of t.channel.level H in
-        let k = (take_keys (received dek body)).keys in
-        let q = taken-sized (received dek body) (bytes-received dek body b) (put_key_passed _ _ e).1 in
-        sets (with_keys (set_of p2) k H) _ (keys-rest (set_of p2) k H) (keys-next c i.proper (set_of p2) k q.0 q.1) (keys-personal (set_of p2) k H))
+        let k = keys_in (received dek body) in
+        sets (with_keys (set_of p2) k H) _ (keys-rest (set_of p2) k H) (keys-next c i.proper (set_of p2) k (keys-sized (received dek body) (bytes-received dek body b)))
+        (keys-personal (set_of p2) k H))
         (refusal _ _)
 
     initialize_along : (p1 : ℕ) (body : List ℕ) → A (initialize_transaction_of H t p1 body)

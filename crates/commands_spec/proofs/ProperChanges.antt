@@ -84,7 +84,6 @@ over_fine h n p s fine b k g =
             blank = f.blank;
             debit = f.debit;
             credit = f.credit;
-            admin = f.admin;
             keyed = f.keyed;
             pin = k;
             tries = g.tries;

@@ -17,7 +17,6 @@ use Rattle.card.specs.declared.head.KeySet.{KeySet}
 use Rattle.card.specs.declared.head.Head.{Head}
 use Rattle.card.specs.Card.{Card}
 use Rattle.card.specs.Updates.{with_purse, with_parameters, with_maxnumber}
-use Rattle.card.specs.Keys.{odd_keys}
 use Rattle.card.specs.Proper.{fixed_tests, aid_ok, keys_ok, unset, pin_ok, SizedKeys, Proper}
 use Rattle.session.specs.declared.Set.{Set}
 use Rattle.session.specs.declared.Set.TheVariants.{Debit, Credit, Admin}
@@ -65,8 +64,8 @@ module _ (c : Card) (p : Proper c) where
   known = facts H p.tests
 
   keys-over : (d e : KeySet) (a : Keys) → SizedKeys d.keys → SizedKeys e.keys → SizedKeys a → keys_ok d ≡ true → keys_ok e ≡ true
-      → odd_keys a ≡ true → Keyed H.purse.parameters.personalized d.defined e.defined → Fine (keys_over H d e a)
-  keys-over d e a x y z k l o n =
+      → Keyed H.purse.parameters.personalized d.defined e.defined → Fine (keys_over H d e a)
+  keys-over d e a x y z k l n =
       let s = p.sized in
       let q = s.purse in
       let f = known in
@@ -87,7 +86,6 @@ module _ (c : Card) (p : Proper c) where
           blank = f.blank;
           debit = k;
           credit = l;
-          admin = o;
           keyed = n;
           pin = f.pin;
           tries = f.tries;
@@ -97,23 +95,23 @@ module _ (c : Card) (p : Proper c) where
         };
       }
 
-  -- of any set, where each byte has odd parity
-  pub keys-next : (set : Set) (k : Keys) → SizedKeys k → odd_keys k ≡ true → Fine (with_keys set k H)
+  -- of any set
+  pub keys-next : (set : Set) (k : Keys) → SizedKeys k → Fine (with_keys set k H)
   unfolding with_keys with_purse keys_ok
-  keys-next Debit k z o =
+  keys-next Debit k z =
       let q = p.sized in
       let f = known in
-      keys-over (record { defined = true; keys = k }) H.purse.credit H.shared.admin z q.purse.credit q.admin o f.credit f.admin
+      keys-over (record { defined = true; keys = k }) H.purse.credit H.shared.admin z q.purse.credit q.admin refl f.credit
       (keyed-debit H.purse.parameters.personalized H.purse.debit.defined H.purse.credit.defined f.keyed)
-  keys-next Credit k z o =
+  keys-next Credit k z =
       let q = p.sized in
       let f = known in
-      keys-over H.purse.debit (record { defined = true; keys = k }) H.shared.admin q.purse.debit z q.admin f.debit o f.admin
+      keys-over H.purse.debit (record { defined = true; keys = k }) H.shared.admin q.purse.debit z q.admin f.debit refl
       (keyed-credit H.purse.parameters.personalized H.purse.debit.defined H.purse.credit.defined f.keyed)
-  keys-next Admin k z o =
+  keys-next Admin k z =
       let q = p.sized in
       let f = known in
-      keys-over H.purse.debit H.purse.credit k q.purse.debit q.purse.credit z f.debit f.credit o f.keyed
+      keys-over H.purse.debit H.purse.credit k q.purse.debit q.purse.credit z f.debit f.credit f.keyed
 
   -- ---- PUT DATA
 
@@ -151,7 +149,6 @@ module _ (c : Card) (p : Proper c) where
             blank = or_left _ _ q;
             debit = ap keys_ok m.debit ∙ f.debit;
             credit = ap keys_ok m.credit ∙ f.credit;
-            admin = ap odd_keys m.admin ∙ f.admin;
             keyed = rw (m.personalized, m.debit, m.credit) f.keyed;
             pin = ap pin_ok m.pin ∙ f.pin;
             tries = rw (r.state, r.fixed) f.tries;
@@ -211,7 +208,6 @@ module _ (c : Card) (p : Proper c) where
           blank = refl;
           debit = ap keys_ok m.debit ∙ f.debit;
           credit = ap keys_ok m.credit ∙ f.credit;
-          admin = ap odd_keys m.admin ∙ f.admin;
           keyed = rw (m.debit, m.credit, d.0, d.1) refl;
           pin = ap pin_ok m.pin ∙ f.pin;
           tries = rw (r.state, r.fixed) f.tries;

@@ -1,5 +1,5 @@
--- PUT KEY of keys of odd parity in a channel of set 3 is not refused: the set that P2 names has the three keys that were sent under DEK, and
--- nothing else of the card changes. Assumes nothing.
+-- PUT KEY in a channel of set 3 is not refused: the set that P2 names has the three keys that were sent under DEK, and nothing else of the
+-- card changes. Assumes nothing.
 use mathlib.Core.Bool.{true}
 use mathlib.Core.List.{List, ◌++◌}
 use mathlib.Core.Path.{◌≡◌, refl, ap, ◌∙◌}
@@ -13,12 +13,11 @@ use Rattle.des_spec.proofs.Texts.{length-ecb_text}
 use Rattle.card.specs.declared.head.Keys.{Keys}
 use Rattle.card.specs.declared.head.KeySet.{KeySet}
 use Rattle.card.specs.declared.head.Head.{Head}
-use Rattle.card.specs.Keys.{key_bytes, take_keys, OddKeys}
+use Rattle.card.specs.Keys.{key_bytes, keys_in}
 use Rattle.card.specs.Card.{Card}
 use Rattle.card.specs.Updates.{with_purse}
 use Rattle.card.specs.Proper.{SizedKeys}
-use Rattle.card.proofs.Bytes.{keys_octets}
-use Rattle.card.proofs.Parity.{keys-taken}
+use Rattle.card.proofs.Bytes.{keys_octets, keys_read}
 use Rattle.session.specs.declared.Set.{Set}
 use Rattle.session.specs.declared.Set.TheVariants.{Admin}
 use Rattle.session.specs.declared.Level.{Level}
@@ -70,7 +69,7 @@ numbered_set (second e) = refl
 numbered_set (third e) = refl
 
 module _ (c : Card) (s : Session) (p1 : ℕ) (l : Level) (n : ℕ) (set : Set) (old : KeySet) (k : Keys) (le random : List ℕ) (short : length le ≤ 1)
-    (o : InChannel s l) (admin : LevelOf Admin p1 l) (names : Numbered c.head old n set) (sized : SizedKeys k) (odd : OddKeys k) where
+    (o : InChannel s l) (admin : LevelOf Admin p1 l) (names : Numbered c.head old n set) (sized : SizedKeys k) where
   -- three keys under the DEK of set 3
   abbrev sent : List ℕ
   sent = ecb_text encipher c.head.shared.admin.dek (k.enc ++ k.mac ++ k.dek)
@@ -82,8 +81,8 @@ module _ (c : Card) (s : Session) (p1 : ℕ) (l : Level) (n : ℕ) (set : Set) (
       let a = admin_channel p1 l c.head admin in
       let b = keys_octets k sized in
       let w : length sent ≡ 48 = length-ecb_text encipher c.head.shared.admin.dek (k.enc ++ k.mac ++ k.dek) ∙ b.size in
-      let r : take_keys (received c.head.shared.admin.dek sent) ≡ record { ok = true; keys = k } =
-      ap take_keys (received_back c.head.shared.admin.dek (k.enc ++ k.mac ++ k.dek) b.each) ∙ keys-taken k sized odd in
+      let r : keys_in (received c.head.shared.admin.dek sent) ≡ k =
+      ap keys_in (received_back c.head.shared.admin.dek (k.enc ++ k.mac ++ k.dek) b.each) ∙ keys_read k sized in
       let q : signed_length PutKey (length sent + 8) ≡ true = rw w in
       rw (reaches_signed c s random PutKey l 0x84 0xD8 0x00 n sent le short o refl (numbered_set names) q a.0, o.level, a.1, a.2, r)
       (refl, refl)

@@ -225,7 +225,7 @@ module _ (c : Card) (s : Session) (command random : List ℕ) where
   unfolding signed_of put_key_of pin_change_of store_data_of initialize_transaction_of put_data_of put_data_status personalized with_parameters with_purse own_way is_reader signed_length
   signed_way PutKey lc f =
       let e = f.names in
-      decided_holds W refusals _ _ _ _ (put_key_judged _ _) (λ t. sets _ _ (rw e) (rw e) (keys-rest _ _ _)) (refusal _ _)
+      decided_holds W refusals _ _ _ _ (put_key_judged _) (λ t. sets _ _ (rw e) (rw e) (keys-rest _ _ _)) (refusal _ _)
   signed_way PinChange lc f =
       let e = f.names in
       decided_holds W refusals _ _ _ _ (pin-judged _ _ _ _)

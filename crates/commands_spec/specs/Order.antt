@@ -6,7 +6,6 @@ use Rattle.des_spec.specs.Des.{decipher}
 use Rattle.des_spec.specs.Modes.{ecb_text}
 use Rattle.card.specs.declared.head.KeySet.{KeySet}
 use Rattle.card.specs.declared.head.Head.{Head}
-use Rattle.card.specs.Keys.{AllOdd}
 use Rattle.card.specs.Pin.{block_of, Digits}
 use Rattle.session.specs.declared.Set.{Set}
 use Rattle.session.specs.declared.Set.TheVariants.{Credit, Admin}
@@ -47,9 +46,9 @@ authenticate_rules s cryptogram mac right =
 abbrev pub NotAdmin : Set → Type 0
 NotAdmin set = set ≡ Admin → ⊥
 
--- PUT KEY: not every one of the 48 bytes under DEK has binary digits that add up to an odd number (document 02, request 5)
-abbrev pub put_key_rules : Set → List ℕ → List ℕ → ℕ → Type 0
-put_key_rules set dek body = Rule (NotAdmin set) 0x6982 (Rule (AllOdd 48 (ecb_text decipher dek body) → ⊥) 0x6A80 Done)
+-- PUT KEY
+abbrev pub put_key_rules : Set → ℕ → Type 0
+put_key_rules set = Rule (NotAdmin set) 0x6982 Done
 
 -- the data are the block of some PIN, under DEK
 pub record IsPin (dek body : List ℕ) : Type 0 where

@@ -1,6 +1,6 @@
 -- P1 to P12 of document 01, "Sums to prove (P)", as one table: what INITIALIZE TRANSACTION and COMPLETE TRANSACTION behind it give on a
 -- card, and what 01 says is due. Assumes nothing.
-use Rattle.std.specs.Prelude.{Bool, true, false, ◌&&◌, List, [], ◌∷◌, ◌++◌, ℕ, eqb, replicate}
+use Rattle.std.specs.Prelude.{Bool, true, false, ◌&&◌, List, [], ◌∷◌, ◌++◌, ℕ, eqb}
 use Rattle.octets.specs.Choice.{pick}
 use Rattle.octets.specs.Bytes.{zeros, part, same}
 use Rattle.octets.specs.Words.{word, word_at}
@@ -8,7 +8,7 @@ use Rattle.octets.specs.Buffers.{content}
 use Rattle.card.specs.declared.head.KeySet.{KeySet}
 use Rattle.card.specs.declared.head.Head.{Head}
 use Rattle.card.specs.Log.{record_bytes}
-use Rattle.card.specs.Card.{no_aid}
+use Rattle.card.specs.Card.{no_keys, no_aid}
 use Rattle.session.specs.declared.Set.TheVariants.{Credit}
 use Rattle.session.specs.declared.Level.TheVariants.{Rmac}
 use Rattle.session.specs.declared.Pending.TheVariants.{Nothing}
@@ -18,9 +18,9 @@ use Rattle.commands_spec.specs.Select.{select_of}
 use Rattle.commands_spec.specs.InitializeTransaction.{initialize_transaction_of}
 use Rattle.commands_spec.specs.CompleteTransaction.{complete_transaction_of}
 
--- each key set: bytes 01, which have odd parity
+-- each key set
 unfoldable pub keys : KeySet
-keys = record { defined = true; keys = record { enc = replicate 16 0x01; mac = replicate 16 0x01; dek = replicate 16 0x01 } }
+keys = record { defined = true; keys = no_keys }
 
 -- the currency of the card and of each transaction
 abbrev pub currency : ℕ
@@ -31,7 +31,7 @@ unfoldable pub card : ℕ → ℕ → ℕ → ℕ → ℕ → Head
 card balance maxbalance maxdebit number maxnumber =
     record {
       fixed = record { logsize = 10; maxtries = 3 };
-      shared = record { maxnumber = maxnumber; admin = keys.keys };
+      shared = record { maxnumber = maxnumber; admin = no_keys };
       purse = record {
         aid = record { size = 5; bytes = zeros 16 };
         parameters = record {

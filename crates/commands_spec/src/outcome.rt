@@ -4,7 +4,7 @@ use octets::Buffer;
 use session::Session;
 
 // The commits that a command makes: none; block H; H and a log record; H and block C; H with a state, and then H.
-#[derive(Drop)]
+#[derive(Clone, Copy)]
 pub enum Commits {
     Unchanged,
     Hot,
@@ -14,7 +14,7 @@ pub enum Commits {
 }
 
 // The status word, which also ends the reply; the commits; the card's head afterwards; the new log record, void where there is none.
-#[derive(Drop)]
+#[derive(Clone, Copy)]
 pub struct Outcome {
     pub status: u16,
     pub commits: Commits,

@@ -2,7 +2,7 @@
 use card::Head;
 
 // `good` until a TLV is refused; `seen` has a 1 at each tag that came.
-#[derive(Drop)]
+#[derive(Clone, Copy)]
 pub struct Stored {
     pub good: bool,
     pub seen: [u8; 8],

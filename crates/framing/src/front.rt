@@ -8,7 +8,7 @@ use octets::{byte_at, word_at};
 pub const HEADER_SIZE: usize = 5;
 
 // A whole frame; what no byte behind it can mend; or what may become a frame, when more bytes are there.
-#[derive(Drop)]
+#[derive(Clone, Copy)]
 pub enum Front {
     Frame,
     Malformed,

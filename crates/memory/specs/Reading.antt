@@ -8,8 +8,7 @@ use Rattle.octets.specs.Bytes.{byte_at, part}
 use Rattle.card.specs.declared.head.Head.{Head}
 use Rattle.card.specs.declared.log.Record.{Record}
 use Rattle.card.specs.Log.{record_size, void, record_in}
-use Rattle.card.specs.Keys.{no_keys}
-use Rattle.card.specs.Card.{Card, no_fixed, no_aid, fresh_head}
+use Rattle.card.specs.Card.{Card, no_fixed, no_aid, no_keys, fresh_head}
 use Rattle.card.specs.Proper.{proper_tests, log_ok}
 use Rattle.memory.specs.declared.reading.Reading.{Reading}
 use Rattle.memory.specs.Layout.{memory_size, magic, root_at, fixed_at, hot_at, cold_at, slot, slot_at}

@@ -16,7 +16,7 @@ use card::{Head, Record, is_proper};
 use octets::all_true;
 
 // Whether there is a card, and its head.
-#[derive(Drop)]
+#[derive(Clone, Copy)]
 pub struct Reading {
     pub ok: bool,
     pub head: Head,

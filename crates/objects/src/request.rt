@@ -4,7 +4,7 @@ use card::Record;
 use tdes::Engine;
 
 // The command's header; the log record that it would read, as the caller found it; the random bytes that are lent.
-#[derive(Drop)]
+#[derive(Clone, Copy)]
 pub struct Request {
     pub engine: Engine,
     pub header: Apdu,

@@ -10,7 +10,7 @@ use crate::writing;
 pub const CAPACITY: usize = 128;
 
 // The first `len` bytes are in use.
-#[derive(Drop)]
+#[derive(Clone, Copy)]
 pub struct Buffer {
     pub bytes: [u8; CAPACITY],
     pub len: usize,

@@ -6,7 +6,7 @@ use session::{Session, unselected};
 
 // The answer, of document 01's list; the reported stores; the length of the response; the session handed back, the unselected one
 // where none is.
-#[derive(Drop)]
+#[derive(Clone, Copy)]
 pub struct Called {
     pub answer: u8,
     pub count: usize,

@@ -14,7 +14,7 @@ pub use transitions::{
 };
 
 // Key sets 1, 2 and 3.
-#[derive(Drop)]
+#[derive(Clone, Copy)]
 pub enum Set {
     Debit,
     Credit,
@@ -22,7 +22,7 @@ pub enum Set {
 }
 
 // The secure channel: none, or the key set that opened it, at security level 01 (C-MAC) or 11 (with R-MAC).
-#[derive(Drop)]
+#[derive(Clone, Copy)]
 pub enum Level {
     Closed,
     Mac(Set),
@@ -30,7 +30,7 @@ pub enum Level {
 }
 
 // The channel's session keys, its last accepted C-MAC and its last R-MAC; zeros where it is closed.
-#[derive(Drop)]
+#[derive(Clone, Copy)]
 pub struct Channel {
     pub level: Level,
     pub enc: [u8; 16],
@@ -40,7 +40,7 @@ pub struct Channel {
 }
 
 // What the last command left to be completed: INITIALIZE UPDATE under a key set, or INITIALIZE TRANSACTION of an amount.
-#[derive(Drop)]
+#[derive(Clone, Copy)]
 pub enum Pending {
     Nothing,
     Update(Set),
@@ -49,7 +49,7 @@ pub enum Pending {
 }
 
 // What INITIALIZE UPDATE prepared: session keys and the host cryptogram that is to come; zeros where none is pending.
-#[derive(Drop)]
+#[derive(Clone, Copy)]
 pub struct Offer {
     pub enc: [u8; 16],
     pub mac: [u8; 16],
@@ -57,7 +57,7 @@ pub struct Offer {
 }
 
 // `verified` is the PIN flag.
-#[derive(Drop)]
+#[derive(Clone, Copy)]
 pub struct Session {
     pub selected: bool,
     pub verified: bool,

@@ -10,7 +10,7 @@ use octets::{
 };
 
 // Whether bytes read as a session, and which: the unselected one where they don't.
-#[derive(Drop)]
+#[derive(Clone, Copy)]
 pub struct Unpacked {
     pub ok: bool,
     pub session: Session,

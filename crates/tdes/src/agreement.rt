@@ -11,7 +11,7 @@ use super::single::des_block;
 use super::triple::triple_block;
 
 // A result of each engine.
-#[derive(Drop)]
+#[derive(Clone, Copy)]
 pub struct Both {
     pub plain: [u8; 8],
     pub quick: [u8; 8],

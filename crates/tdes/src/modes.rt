@@ -9,7 +9,7 @@ use super::engine::Engine;
 use super::{plainly, quickly};
 
 // The modes.
-#[derive(Drop)]
+#[derive(Clone, Copy)]
 pub enum Way {
     Ecb,
     CbcEncipher,
@@ -17,7 +17,7 @@ pub enum Way {
 }
 
 // What a block becomes, and the value that the next block comes after.
-#[derive(Drop)]
+#[derive(Clone, Copy)]
 pub struct Turned {
     pub put: [u8; 8],
     pub next: [u8; 8],
