@@ -1,0 +1,20 @@
+-- `round_keys` is the composition of its parts, in either order. Assumes nothing.
+use Rattle.quick.proofs.Blocks.{forth, back}
+use borrow.Author.Rules.{rules}
+use Rattle.quick.proofs.schedule.round_keys.Goals as goal
+
+pub returns-then-decipher : goal.returns-then-decipher
+returns-then-decipher c = (
+  c.reversed.ensures.0,
+  back c.args.key c.key_words-forth.result c.load.result c.choice1.result
+      c.load.ensures c.choice1.ensures c.key_words-forth.ensures
+      c.args.decipher c.reversed.result (search rules) c.reversed.ensures.1,
+)
+
+pub returns : goal.returns
+returns c = (
+  search rules,
+  forth c.args.key c.key_words-forth.result c.load.result c.choice1.result
+      c.load.ensures c.choice1.ensures c.key_words-forth.ensures
+      c.args.decipher (search rules),
+)
