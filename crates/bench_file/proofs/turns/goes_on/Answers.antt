@@ -1,4 +1,4 @@
--- `goes_on_lem`: the two tests of the definition, in order. Assumes nothing.
+-- `goes_on`: the two tests of the definition, in order. Assumes nothing.
 use mathlib.Core.Path.{sym, ap, ◌∙◌}
 use Rattle.framing.specs.Frames.{is_frame}
 use Rattle.framing.proofs.Headers.{front_whole}
