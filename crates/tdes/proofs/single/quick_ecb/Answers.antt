@@ -1,0 +1,33 @@
+-- `quick_ecb`: after i turns the text is what its first i blocks became, and then what it was. Assumes nothing.
+use Prim.Native.Nat.{ℕ}
+use mathlib.Core.Path.{ap, ◌∙◌}
+use mathlib.Core.List.{List, map}
+use Rattle.des_spec.specs.Des.{block_under, des}
+use Rattle.des_spec.proofs.Lengths.{length-block_under}
+use Rattle.quick.specs.Words.{key_bits}
+use Rattle.tdes.specs.Single.{each_text, des_text}
+use Rattle.tdes.proofs.Each.{first, turn, last}
+use borrow.Author.Rules.{rules}
+use Rattle.tdes.proofs.single.quick_ecb.Goals as goal
+
+pub loop-i-init : goal.loop-i-init
+loop-i-init c = first _ _
+
+pub block_under-put-requires : goal.block_under-put-requires
+block_under-put-requires c =
+    (c.boxes-t.ensures, c.round_keys-keys.ensures.0)
+
+pub loop-i-preserved : goal.loop-i-preserved
+loop-i-preserved c =
+    let ks = map key_bits c.round_keys-keys.result in
+    turn (λ (i : ℕ). block_under ks) (λ i. length-block_under ks) c.loop-i.invariant (search rules) c.part8-block.ensures
+    c.block_under-put.ensures c.paste.ensures
+
+pub returns : goal.returns
+unfolding des_text des
+returns c =
+    let keys = c.round_keys-keys in
+    let a = c.args in
+    let ks = map key_bits keys.result in
+    last (λ (k : ℕ). block_under ks) (λ k. length-block_under ks) c.loop-i.invariant (search rules)
+    ∙ ap (λ (l : List (List ℕ)). each_text (λ (k : ℕ). block_under l) a.text.now) keys.ensures.1
