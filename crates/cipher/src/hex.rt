@@ -1,5 +1,5 @@
 // Bytes as hexadecimal digits.
-ghost use Rattle.std.specs.Prelude.{◌≤◌, length};
+ghost use Rattle.std.specs.Prelude.{◌≡◌, ◌≤◌, length, take};
 
 use crate::output::write;
 
@@ -18,7 +18,8 @@ fn value(c: u8) -> u8
 // Puts the bytes that `digits` say at the front of `out` and answers how many: 0 where there are none, an odd number of
 // digits, another byte among them, or no room.
 pub fn decode(digits: &[u8], out: &mut [u8]) -> usize
-    ensures { result ≤ length out.new }
+    ensures inside { result ≤ length out.new }
+    ensures prefix { result ≡ length (take result out.new) }
 {
     let n = digits.len() / 2;
     if digits.len() % 2 != 0 {
@@ -60,7 +61,8 @@ fn digit_of(byte: u8, second: bool) -> u8 {
 
 // Puts the digits of `bytes` at the front of `out`, as far as there is room, and answers how many.
 fn encode(bytes: &[u8], out: &mut [u8]) -> usize
-    ensures { result ≤ length out.new }
+    ensures inside { result ≤ length out.new }
+    ensures prefix { result ≡ length (take result out.new) }
 {
     let mut i = 0;
     while i < out.len() {
