@@ -1,5 +1,4 @@
 -- `put_hex`: two digits a turn of the loop, behind those that are put. Assumes nothing.
-use Prim.Native.Nat.{◌-◌}
 use mathlib.Core.Path.{refl, sym}
 use native.Mathlib.Omega.{arith}
 use borrow.Author.Rules.{rules}

@@ -1,5 +1,4 @@
 -- `batch`: the loop keeps framing's `Going`. Assumes nothing.
-use Prim.Native.Nat.{◌-◌}
 use mathlib.Core.Path.{refl, sym, ◌∙◌}
 use Rattle.framing.proofs.Batching.{going_start, going-within, going-room, going_less, going_step, going_done}
 use Rattle.bench_file.specs.Stream.{bench}
