@@ -13,7 +13,6 @@ use Rattle.des_spec.proofs.Ranges.{bits-permute}
 use Rattle.des_spec.proofs.ByRows.{length-line, names_line}
 use Rattle.des.proofs.rows.row.Goals as goal
 
--- `row` is the number that the bits of its line say. Assumes nothing.
 -- the part of the table that is lent is line r
 part-line : (t : List ℕ) (r : ℕ) → take (8 * r + 8 - 8 * r) (drop (8 * r) t) ≡ line t r
 unfolding line

@@ -7,7 +7,6 @@ use Rattle.card.specs.Proper.{proper_tests}
 use Rattle.memory.proofs.InPlace.{both_readable, not_formed, not_proper, reads_none, reads_card}
 use Rattle.memory.proofs.reading.read.Goals as goal
 
--- read: a head that fails a test is no card.
 abbrev properly : Head → Bool
 properly h = all_true (proper_tests h)
 

@@ -12,7 +12,6 @@ use Rattle.quick.specs.Words.{placed, masked, mask, Boxed}
 use Rattle.des_spec.proofs.Tests.{at, every, same, same_eq}
 use Rattle.quick.proofs.table.boxes.Goals as goal
 
--- `boxes`: the table follows from the selection functions and P, by one computed test over all its entries. Assumes nothing.
 abbrev right : ℕ → ℕ → Bool
 right k x = same (binary 32 x) (placed (k / 64) (k % 64))
 

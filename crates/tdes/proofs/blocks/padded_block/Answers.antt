@@ -12,7 +12,6 @@ use Rattle.octets.proofs.Pasting.{paste_front}
 use Rattle.des_spec.specs.Modes.{padded}
 use Rattle.tdes.proofs.blocks.padded_block.Goals as goal
 
--- `padded_block`: the text over zeros, and 80 behind it. Assumes nothing.
 -- the bytes of a short text, 80, zeros
 marked : (t out : List ℕ) → length t < 8 → out ≡ paste (zeros 8) 0 t → set out (length t) 0x80 ≡ padded t
 unfolding padded
