@@ -1,8 +1,8 @@
 /* A purse in a C program: installed, started, selected, its balance read; then personalized, loaded with 1,000, and a purchase
    of 350. The terminal's side signs with the library cipher_c. Exit status 1 if anything is refused or wrongly signed.
 
-   rt staticlib host && rt staticlib cipher_c
-   cc -std=c11 -Iinclude examples/host.c target/staticlib/libhost.a target/staticlib/libcipher_c.a -o host && ./host */
+   (cd crates/host && rt lib) && (cd crates/cipher_c && rt lib)
+   cc -std=c11 -Iinclude examples/host.c crates/host/out/libhost.a crates/cipher_c/out/libcipher_c.a -o host && ./host */
 
 #include <stdbool.h>
 #include <stdio.h>

@@ -1,4 +1,5 @@
-/* The proved purse for C programs. `rt staticlib host` writes target/staticlib/libhost.a, to link with on x86-64.
+/* The proved purse for C programs. `rt lib` in crates/host writes crates/host/out/libhost.a, to link with on
+   x86-64.
 
    Card memory, session, command, random bytes and response are byte areas of the caller's, each a pointer and a length. No
    length is asked for beforehand: a wrong one is answered, and changes nothing. What C itself asks for is the caller's part:

@@ -3,7 +3,6 @@
 . "$(dirname "$0")/lib.sh"
 
 # A bench file, and the lines that are printed for it alone.
-bench=$root/target/bin/bench
 cp crates/bench/stdin "$work/a.bench"
 cp crates/bench/stdin "$work/--plain"
 "$bench" "$work/a.bench" >"$work/once"

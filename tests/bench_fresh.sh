@@ -22,7 +22,7 @@ tally() {
 whole_runs() {
     "$second" bench-random "$seed" 100000 >"$work/fresh.bench"
     "$second" bench-run "$work/fresh.bench" >"$work/fresh.lines"
-    target/bin/bench <"$work/fresh.bench" >"$work/fresh.got"
+    "$bench" <"$work/fresh.bench" >"$work/fresh.got"
     tally "$work/fresh.lines"
     if [ "$commands" -lt "$COMMANDS" ] || [ "$accepted" -lt "$ACCEPTED" ]; then
         fail "bench: $said, seed $seed: too few"
@@ -34,7 +34,7 @@ whole_runs() {
 # Cut runs print lines that the second program allows.
 cut_runs() {
     "$second" bench-random "$seed" 100000 --cuts >"$work/fresh-cuts.bench"
-    target/bin/bench <"$work/fresh-cuts.bench" >"$work/fresh-cuts.lines"
+    "$bench" <"$work/fresh-cuts.bench" >"$work/fresh-cuts.lines"
     tally "$work/fresh-cuts.lines"
     said="$said, $cut answered 7 (at least $CUT)"
     if [ "$commands" -lt "$COMMANDS" ] || [ "$accepted" -lt "$ACCEPTED" ] || [ "$cut" -lt "$CUT" ]; then
@@ -50,7 +50,7 @@ malformed_files() {
     while [ "$number" -lt 300 ]; do
         "$second" bench-malformed $((seed + number)) >"$work/malformed.bench"
         "$second" bench-run "$work/malformed.bench" >"$work/malformed.lines"
-        target/bin/bench <"$work/malformed.bench" >"$work/malformed.got"
+        "$bench" <"$work/malformed.bench" >"$work/malformed.got"
         if ! cmp -s "$work/malformed.lines" "$work/malformed.got"; then
             break
         fi

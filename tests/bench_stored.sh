@@ -14,6 +14,6 @@ if "$second" bench-coverage "$stored/sessions.bench"; then
 else
     fail "bench: the stored sessions reach every pair of command and status word"
 fi
-target/bin/bench "$stored/cuts.bench" >"$work/cuts.lines"
+"$bench" "$stored/cuts.bench" >"$work/cuts.lines"
 allowed "bench: every store of each kind of command cut" "$stored/cuts.bench" "$work/cuts.lines"
 finish

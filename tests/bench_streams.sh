@@ -9,12 +9,12 @@ stored_files "$stored"
 worked_example() {
     local way
     printf '%s\n' 'I 0' 'S 0' 'C 0 0000000000000000000000000000009000' 'C 0 0200009000' >"$work/worked"
-    target/bin/bench "$stored/example.bench" >"$work/worked.file"
+    "$bench" "$stored/example.bench" >"$work/worked.file"
     same "bench: document 01's worked example" "$work/worked" "$work/worked.file"
     "$second" bench-run "$stored/sessions.bench" >"$work/sessions.lines"
-    target/bin/bench "$stored/sessions.bench" >"$work/sessions.file"
-    cat "$stored/sessions.bench" | target/bin/bench >"$work/sessions.pipe"
-    dd bs=1 status=none <"$stored/sessions.bench" | target/bin/bench >"$work/sessions.bytes"
+    "$bench" "$stored/sessions.bench" >"$work/sessions.file"
+    cat "$stored/sessions.bench" | "$bench" >"$work/sessions.pipe"
+    dd bs=1 status=none <"$stored/sessions.bench" | "$bench" >"$work/sessions.bytes"
     for way in file pipe bytes; do
         same "bench: recorded sessions, by $way" "$work/sessions.lines" "$work/sessions.$way"
     done
@@ -23,7 +23,7 @@ worked_example() {
 # 6,000 READ RECORD commands, whose lines are thrice as long as their frames: the lines of one piece are more than a buffer.
 long_file() {
     "$second" bench-run "$stored/records.bench" >"$work/records.lines"
-    target/bin/bench "$stored/records.bench" >"$work/records.got"
+    "$bench" "$stored/records.bench" >"$work/records.got"
     same "bench: a long file, $(wc -l <"$work/records.lines") lines, $(wc -c <"$work/records.lines") bytes" \
         "$work/records.lines" "$work/records.got" "$stored/records.bench"
 }
@@ -34,7 +34,7 @@ two_files() {
     for name in purchase sessions; do
         "$second" bench-run "$stored/$name.bench"
     done >"$work/two.lines"
-    target/bin/bench "$stored/purchase.bench" "$stored/sessions.bench" >"$work/two.got"
+    "$bench" "$stored/purchase.bench" "$stored/sessions.bench" >"$work/two.got"
     same "bench: two files named at once" "$work/two.lines" "$work/two.got" "$stored/purchase.bench" "$stored/sessions.bench"
 }
 

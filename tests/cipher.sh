@@ -5,8 +5,8 @@
 # The cipher program on an engine, `quick` or `plain`.
 cipher() {
     case $1 in
-    quick) target/bin/cipher ;;
-    plain) target/bin/cipher --plain ;;
+    quick) "$cipher" ;;
+    plain) "$cipher" --plain ;;
     esac
 }
 
@@ -43,7 +43,7 @@ random_cipher() {
 # Help goes to standard output, a wrong argument gives one line on standard error; no test is answered.
 arguments() {
     local words
-    target/bin/cipher --help <crates/cipher/stdin >"$work/help" 2>"$work/help-errors"
+    "$cipher" --help <crates/cipher/stdin >"$work/help" 2>"$work/help-errors"
     if [ "$(head -n 1 "$work/help")" = "usage: cipher [--plain]" ] && [ ! -s "$work/help-errors" ] && [ "$(wc -l <"$work/help")" -lt 9 ]; then
         pass "cipher: --help prints the usage and nothing else"
     else
@@ -51,7 +51,7 @@ arguments() {
     fi
     for words in "--quick" "--plain --plain" "file" "--help --plain"; do
         # shellcheck disable=SC2086 # the words are arguments of their own
-        target/bin/cipher $words <crates/cipher/stdin >"$work/wrong" 2>"$work/wrong-errors"
+        "$cipher" $words <crates/cipher/stdin >"$work/wrong" 2>"$work/wrong-errors"
         if [ ! -s "$work/wrong" ] && [ "$(wc -l <"$work/wrong-errors")" -eq 1 ] && grep -q -- "--help" "$work/wrong-errors"; then
             pass "cipher: the arguments '$words' are refused in one line"
         else

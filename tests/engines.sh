@@ -22,8 +22,8 @@ alike() {
     seed=$(fresh_seed)
     "$second" bench-random "$seed" 5000 --cuts >"$stored/random.bench"
     for name in example purchase sessions cuts random; do
-        target/bin/bench "$stored/$name.bench" >"$work/$name-quick"
-        target/bin/bench --plain "$stored/$name.bench" >"$work/$name-plain"
+        "$bench" "$stored/$name.bench" >"$work/$name-quick"
+        "$bench" --plain "$stored/$name.bench" >"$work/$name-plain"
         same "engines: $name.bench on both, $(wc -l <"$work/$name-quick") lines, seed $seed" "$work/$name-plain" "$work/$name-quick"
     done
 }

@@ -15,8 +15,8 @@ compile() {
 
 # The C host, its example and its tests are built; without a C compiler that fails.
 build_host() {
-    local host=target/staticlib/libhost.a cipher=target/staticlib/libcipher_c.a
-    rt staticlib host && rt staticlib cipher_c && compile host-example examples/host.c "$host" "$cipher" &&
+    local host=crates/host/out/libhost.a cipher=crates/cipher_c/out/libcipher_c.a
+    library host && library cipher_c && compile host-example examples/host.c "$host" "$cipher" &&
         compile host-tests tests/host.c "$host" && compile host-replay tests/replay.c "$host"
 }
 
@@ -51,7 +51,7 @@ host_replays() {
 # older layouts are no card, and neither is the second program's empty memory: the same calls print the same lines on both.
 host_images() {
     local image magic older
-    older=$(sed -n 's/^olderMagics = //p' crates/memory/specs/Layout.antt | grep -o '0x[0-9A-F]*')
+    older=$(sed -n 's/^older_magics = //p' crates/memory/specs/Layout.antt | grep -o '0x[0-9A-F]*')
     cat "$stored/image-making.bench" "$stored/image-reading.bench" >"$work/image.bench"
     "$second" bench-run "$work/image.bench" >"$work/image-whole"
     "$second" bench-run "$stored/image-making.bench" >"$work/image-making"

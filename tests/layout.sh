@@ -23,9 +23,9 @@ layout, structs, changes = (text(f"crates/memory/specs/{name}.antt") for name in
 keys, log, proper = (text(f"crates/card/specs/{name}.antt") for name in ("Keys", "Log", "Proper"))
 
 # the definitions' numbers: widths by struct, sizes by name, starts by root
-widths = {name: [w.strip() for w in line.split("∷")[:-1]] for name, line in re.findall(r"^(\w+)Widths = (.*\[\])$", structs, re.M)}
-sizes = {"keysSize": int(body(keys, "keysSize")), "recordSize": int(body(log, "recordSize"))}
-owners = {size: name for size, name in re.findall(r"^(\w+Size) = total (\w+)Widths$", structs, re.M)}
+widths = {name: [w.strip() for w in line.split("∷")[:-1]] for name, line in re.findall(r"^(\w+)_widths = (.*\[\])$", structs, re.M)}
+sizes = {"keys_size": int(body(keys, "keys_size")), "record_size": int(body(log, "record_size"))}
+owners = {size: name for size, name in re.findall(r"^(\w+_size) = total (\w+)_widths$", structs, re.M)}
 
 
 def width(w):
@@ -38,9 +38,9 @@ def leaves(struct):
 
 
 sizes.update({name: width(name) for name in owners})
-memory_size, magic, root_at, fixed_at, ring_at = (int(body(layout, n), 0) for n in ("memorySize", "magic", "rootAt", "fixedAt", "ringAt"))
-most = int(re.search(r"leb \(f \.logsize\) (\d+)", proper).group(1))
-slots = sizes["recordSize"] * (most + 1)
+memory_size, magic, root_at, fixed_at, ring_at = (int(body(layout, n), 0) for n in ("memory_size", "magic", "root_at", "fixed_at", "ring_at"))
+most = int(re.search(r"leb f\.logsize (\d+)", proper).group(1))
+slots = sizes["record_size"] * (most + 1)
 
 
 def at(name, root):
@@ -48,7 +48,7 @@ def at(name, root):
 
 
 def count(name, **flags):
-    rule = re.sub(r"pick \(x \.(\w+)\) (\w+) 0", r"(\2 if \1 else 0)", body(changes, name))
+    rule = re.sub(r"pick x\.(\w+) (\w+) 0", r"(\2 if \1 else 0)", body(changes, name))
     return eval(rule, dict(sizes, **flags))
 
 
@@ -69,14 +69,14 @@ def verdict(name, got, want):
     print(f"pass {name}" if got == want else f"fail {name}: it has {got}, the definitions {want}")
 
 
-starts = [(0, 1), (root_at, 1), (fixed_at, sizes["fixedSize"]), (at("hotAt", 0), sizes["hotSize"]), (at("hotAt", 1), sizes["hotSize"])]
-starts += [(at("coldAt", 0), sizes["coldSize"]), (at("coldAt", 2), sizes["coldSize"]), (ring_at, slots)]
+starts = [(0, 1), (root_at, 1), (fixed_at, sizes["fixed_size"]), (at("hot_at", 0), sizes["hot_size"]), (at("hot_at", 1), sizes["hot_size"])]
+starts += [(at("cold_at", 0), sizes["cold_size"]), (at("cold_at", 2), sizes["cold_size"]), (ring_at, slots)]
 whole = [(number(start), number(size), holds) for start, size, holds in rows("The whole")]
 verdict("docs/LAYOUT.md: starts and sizes", [row[:2] for row in whole if row[2] != "not read"], starts)
 verdict("docs/LAYOUT.md: no gap", [a + b for a, b, _ in whole], [a for a, _, _ in whole][1:] + [memory_size])
 verdict("docs/LAYOUT.md: magic", re.search(r"magic (\w+)", whole[0][2]).group(1), f"{magic:X}")
 named = [number(cell) for row in rows("The root") for cell in (row[1].replace(" is live", ""), row[2])]
-verdict("docs/LAYOUT.md: the root", named, [at("hotAt", 0), at("hotAt", 1), at("coldAt", 0), at("coldAt", 2)])
+verdict("docs/LAYOUT.md: the root", named, [at("hot_at", 0), at("hot_at", 1), at("cold_at", 0), at("cold_at", 2)])
 
 
 def fields(struct):
@@ -85,23 +85,23 @@ def fields(struct):
 
 fixed = [tuple(map(number, row[:3])) for row in rows(f"The fixed part, from {fixed_at}")]
 verdict("docs/LAYOUT.md: the fixed part", fixed, [(o, fixed_at + o, w) for o, w in fields("fixed")])
-hot = [tuple(map(number, row[:2])) for row in rows(f"Block H, from {at('hotAt', 0):,} or {at('hotAt', 1):,}")]
+hot = [tuple(map(number, row[:2])) for row in rows(f"Block H, from {at('hot_at', 0):,} or {at('hot_at', 1):,}")]
 verdict("docs/LAYOUT.md: block H", hot, fields("hot"))
-cold = [tuple(map(number, row[:2])) for row in rows(f"Block C, from {at('coldAt', 0):,} or {at('coldAt', 2):,}")]
+cold = [tuple(map(number, row[:2])) for row in rows(f"Block C, from {at('cold_at', 0):,} or {at('cold_at', 2):,}")]
 verdict("docs/LAYOUT.md: block C", cold, fields("cold"))
 ring = re.search(r"Slot j has the (\d+) bytes from ([\d,]+) \+ (\d+) j", page).groups()
-verdict("docs/LAYOUT.md: the ring", [number(n) for n in ring], [sizes["recordSize"], ring_at, sizes["recordSize"]])
-reads = re.findall(r"(wordAt|field|byteAt) l (\d+) ?(\d*)", body(log, "recordIn"))
-record = [(int(at), {"wordAt": 2, "byteAt": 1}.get(how) or int(n)) for how, at, n in reads]
+verdict("docs/LAYOUT.md: the ring", [number(n) for n in ring], [sizes["record_size"], ring_at, sizes["record_size"]])
+reads = re.findall(r"(word_at|field|byte_at) l (\d+) ?(\d*)", body(log, "record_in"))
+record = [(int(at), {"word_at": 2, "byte_at": 1}.get(how) or int(n)) for how, at, n in reads]
 verdict("docs/LAYOUT.md: a record", [tuple(map(number, row[:2])) for row in rows("The ring")], record)
-older = re.findall(r"0x(\w+)", body(layout, "olderMagics"))
+older = re.findall(r"0x(\w+)", body(layout, "older_magics"))
 verdict("docs/LAYOUT.md: older layouts", [row[0] for row in rows("Which memories are cards")], older)
 
 counts = {
-    "state": count("storeCount", logs=False, cold=False),
-    "state and record": count("storeCount", logs=True, cold=False),
-    "state and parameters": count("storeCount", logs=False, cold=True),
-    "installation": count("installCount"),
+    "state": count("store_count", logs=False, cold=False),
+    "state and record": count("store_count", logs=True, cold=False),
+    "state and parameters": count("store_count", logs=False, cold=True),
+    "installation": count("install_count"),
 }
 stores = rows("What is live and what is dead")
 verdict("docs/LAYOUT.md: stores", {row[0]: number(row[2]) for row in stores}, counts)

@@ -4,6 +4,9 @@ set -u
 cd "$(dirname "${BASH_SOURCE[0]}")/.." || exit 2
 root=$PWD
 second=$root/second/target/release/second
+# the programs, where 'rt ci' and 'rt run' leave them
+bench=$root/crates/bench/out/bench
+cipher=$root/crates/cipher/out/cipher
 work=$(mktemp -d)
 trap 'rm -rf "$work"' EXIT
 passed=0
@@ -48,6 +51,11 @@ counted() {
     else
         add "$name" "${p:-0}" "${f:-0}" "$status"
     fi
+}
+
+# Builds a crate's static library for C over what is proved: crates/NAME/out/libNAME.a.
+library() {
+    (cd "crates/$1" && rt lib)
 }
 
 # Keeps files that a failed comparison was made of.

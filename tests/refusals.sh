@@ -1,112 +1,139 @@
 #!/usr/bin/env bash
-# Must-fail edits are refused at a false fact, and where they say: the first error of each edit's log, as 'rt ci' leaves it, stands at a law, a
-# step of one, or a function's contract that the edit's second line names, and whose text the edit leaves alone; it doesn't say that a name,
-# a field or a need is missing; and antt's trial run, which unfolds more names, doesn't admit what it stands at.
+# Must-fail edits are refused at a false fact, and where they say: what 'rt ci' says of each edit stands at a law, a step of one, or a function's
+# contract that the edit's second line names, and whose text the edit leaves alone; no limit of the prover refused it, and no missing name.
+# usage: tests/refusals.sh [LOG]: reads what 'rt ci' printed, target/rt-ci.log as .ci/run keeps it; of another log, such as what
+# 'rt must-fail NAME' printed, the crates that it names alone.
 . "$(dirname "$0")/lib.sh"
 
-# What no false fact is said by, on an error's first line; and on the lines below it, where antt also gives hints on names and scopes.
-MISSING='is not in scope|has no field|missing field|can be named from here'
-MISSING_BELOW='has no field|missing field|can be named from here'
-
-# Where a log's first error stands and what it says, on one line; a function whose proof antt was to find has a note instead.
-first_error() {
-    grep -m 1 -E '^[^ ]+: error: ' "$1" || grep -m 1 -E '^note: [^ ]+:[0-9]+:[0-9]+: ' "$1"
-}
-
-# The lines that go on with a log's first error: those below it, indented.
-below_first_error() {
-    awk '/^[^ ]+: error: / && !seen { seen = 1; next } seen && !/^  / { exit } seen' "$1"
-}
-
-# Whether an error is a false fact: its text without the folder of the edited crate, the log.
-is_false_fact() {
-    case $1 in
-    'proofs/'*': error: `'*) ! grep -q -E "$MISSING" <<<"$1" && ! below_first_error "$2" | grep -q -E "$MISSING_BELOW" ;;
-    'note: src/'*'it is not proved that'*) true ;;
-    *) false ;;
-    esac
-}
-
-# What an error stands at: the name of a law or a step, or of the function whose contract it is. The folder of the edited crate, the error.
-declaration() {
-    local file line
-    case $2 in
-    'note: '*)
-        IFS=: read -r file line _ <<<"${2#note: }"
-        sed -n -E "$line s/.*fn ([[:alnum:]_]+).*/\1/p" "$1/$file"
-        ;;
-    *'/Proof.antt:'*) basename "${2%%/Proof.antt:*}" ;;
-    *) sed -E 's/^[^`]*`([^`]*)`.*/\1/' <<<"$2" ;;
-    esac
-}
-
-# Whether the second line of an edit has a name.
-is_named() {
-    sed -n 2p "$1" | grep -o -E "[[:alnum:]_'-]+" | grep -q -x -F -e "$2"
-}
-
-# Whether antt's trial run admits the declaration that an error names: then it is true, and only its text broke. The error, the log.
-is_admitted() {
-    local file=${1%%:*} name=${1#*': error: `'}
-    grep -F "/$file:" "$2" | grep 'a trial run of this declaration was admitted' | grep -q -F "(in \`${name%%'`'*}\`)"
-}
-
-# The text of a law: its type and its clauses, up to the next line that is indented as they are. Its name, the file.
-law_text() {
-    awk -v name="$1 " '
-        { depth = match($0, /[^ ]/); own = $0; sub(/^ *(pub )?/, "", own) }
-        index(own, name ":") == 1 { inside = depth; print; next }
-        inside && depth > 0 && depth <= inside && index(own, name) != 1 && own !~ /^unfolding / { inside = 0 }
-        inside { print }' "$2"
-}
-
-# A function's signature and contract. Its name, the file.
-contract_text() {
-    awk -v name="$1" '$0 ~ "fn " name "[(<]" { inside = 1 } inside { print } inside && /^ *{$/ { exit }' "$2"
-}
-
-# The text of what an error stands at: of a law, or of the contract of a function. The folder of a crate, the error, the name.
-statement_text() {
-    local file=${2%%:*}
-    case $2 in
-    'note: '*) file=${2#note: } && contract_text "$3" "$1/${file%%:*}" ;;
-    *'/Proof.antt:'*) file=$(dirname "$(dirname "$file")") && file=${file#proofs} && contract_text "$3" "$1/src${file:-/lib}.rt" ;;
-    *) law_text "$3" "$1/$file" ;;
-    esac
-}
-
-# Whether an edit leaves alone what an error stands at. The crate, the folder of the edited crate, the error, the name.
-is_left_alone() {
-    local text
-    text=$(statement_text "$2" "$3" "$4")
-    [ -n "$text" ] && [ "$text" = "$(statement_text "crates/$1" "$3" "$4")" ]
-}
-
-# One edit: its crate and label.
+# A line for each edit, 'good' or 'bad', and what is said of it.
 judge() {
-    local edit=crates/$1/must-fail/$2.edit folder=target/must-fail/$1/$2 error name
-    if [ ! -f "$folder/.log" ]; then
-        fail "must-fail $1/$2 was tried"
-        return
-    fi
-    error=$(first_error "$folder/.log" | sed "s|[^ ]*/$folder/||" | cut -c 1-400)
-    name=$(declaration "$folder" "$error")
-    if ! is_false_fact "$error" "$folder/.log" || is_admitted "$error" "$folder/.log"; then
-        fail "must-fail $1/$2 is refused at a false fact: $error"
-    elif ! is_named "$edit" "$name"; then
-        fail "must-fail $1/$2 is refused where its second line says: $error"
-    elif ! is_left_alone "$1" "$folder" "$error" "$name"; then
-        fail "must-fail $1/$2 leaves alone what it is refused by: $error"
-    else
-        good=$((good + 1))
-    fi
+    python3 - "$@" <<'PY'
+import glob, os, re, sys
+
+log, whole = sys.argv[1], sys.argv[2] == ""
+SAID = re.compile(r"(?:rt: )?must-fail (\w+)/([\w.-]+)\.edit: (.*)")
+REFUSED = "refused, as it must be: "
+LAW = re.compile(r"(?:\./)?(proofs/[^:]+\.antt):(\d+):\d+: error: `([^`]+)`")
+CONTRACT = re.compile(r"note: (?:\./)?(src/[^:]+\.rt):(\d+):\d+: it is not proved that")
+MISSING = re.compile(r"is not in scope|has no field|missing field|can be named from here")
+WORD = r"[\w'-]+"
+
+
+def text(path):
+    with open(path, encoding="utf-8") as file:
+        return file.read()
+
+
+def edited(edit, crate):
+    """The files that an edit changes, as they are after it."""
+    files, path, old = {}, None, None
+    for line in edit.split("\n"):
+        kind, _, rest = line.partition(":")
+        rest = rest.removeprefix(" ")
+        if kind == "file":
+            path = rest.strip()
+            files.setdefault(path, text(f"{crate}/{path}"))
+        elif kind == "old":
+            old = rest
+        elif kind == "new":
+            files[path] = files[path].replace(old, rest)
+    return files
+
+
+def law(source, name):
+    """The text of a law: its type and its clauses, up to the next line that is indented as they are."""
+    found, inside = [], 0
+    for line in source.split("\n"):
+        own = line.lstrip(" ")
+        depth = len(line) - len(own) + 1 if own else 0
+        own = own.removeprefix("pub ")
+        if own.startswith(f"{name} :"):
+            inside = depth
+        elif inside and 0 < depth <= inside and not own.startswith((f"{name} ", "unfolding ")):
+            inside = 0
+        if inside:
+            found.append(line)
+    return "\n".join(found)
+
+
+def contract(source, name):
+    """A function's signature and contract."""
+    found = []
+    for line in source.split("\n"):
+        if found or re.search(rf"^(?:[^/]*\s)?fn {name}[(<]", line):
+            found.append(line)
+            if line.endswith("{") and not re.match(r" *(requires|ensures)\b", line):
+                return "\n".join(found)
+    return ""
+
+
+def module(crate, path):
+    """The source file of the function whose proofs lie at a path."""
+    inside = os.path.dirname(os.path.dirname(path))
+    while inside:
+        if os.path.isfile(f"{crate}/src/{inside.removeprefix('proofs/')}.rt"):
+            return f"src/{inside.removeprefix('proofs/')}.rt"
+        inside = os.path.dirname(inside)
+    return "src/main.rt" if os.path.isfile(f"{crate}/src/main.rt") else "src/lib.rt"
+
+
+def place(crate, said, files):
+    """What a refusal stands at: a kind of text, its file and its name."""
+    at = CONTRACT.match(said)
+    if at:
+        before = files.get(at[1], text(f"{crate}/{at[1]}")).split("\n")[: int(at[2])]
+        names = [found[1] for line in before for found in [re.search(r"^(?:[^/]*\s)?fn (\w+)", line)] if found]
+        return (contract, at[1], names[-1]) if names else None
+    at = LAW.match(said)
+    if not at or MISSING.search(said):
+        return None
+    if os.path.basename(at[1]) in ("Answers.antt", "Invariants.antt", "Proof.antt"):
+        return contract, module(crate, at[1]), os.path.basename(os.path.dirname(at[1]))
+    return law, at[1], at[3]
+
+
+def verdict(crate, edit, said):
+    if not said.startswith(REFUSED):
+        return "is refused at a false fact"
+    try:
+        files = edited(edit, crate)
+        found = place(crate, said.removeprefix(REFUSED), files)
+        if not found:
+            return "is refused at a false fact"
+        part, file, name = found
+        if name not in re.findall(WORD, edit.split("\n")[1]):
+            return f"is refused where its second line says, and not at {name}"
+        stands = part(text(f"{crate}/{file}"), name)
+        if not stands or file in files and part(files[file], name) != stands:
+            return f"leaves alone what it is refused by, {name}"
+    except (OSError, KeyError, TypeError, IndexError) as error:
+        return f"can be applied: {error!r}"
+    return ""
+
+
+said = {(found[1], found[2]): found[3] for line in text(log).split("\n") for found in [SAID.match(line)] if found}
+crates = {crate for crate, _ in said}
+for path in sorted(glob.glob("crates/*/must-fail/*.edit")):
+    crate, name = path.split("/")[1], os.path.basename(path).removesuffix(".edit")
+    if (crate, name) not in said:
+        if whole or crate in crates:
+            print(f"bad must-fail {crate}/{name} was tried")
+        continue
+    wrong = verdict(f"crates/{crate}", text(path), said[crate, name])
+    print(f"bad must-fail {crate}/{name} {wrong}: {said[crate, name]}" if wrong else f"good {crate}/{name}")
+PY
 }
 
-good=0
-for edit in crates/*/must-fail/*.edit; do
-    crate=${edit#crates/}
-    judge "${crate%%/*}" "$(basename "$edit" .edit)"
-done
+log=${1:-target/rt-ci.log}
+if ! judge "$log" "${1:+part}" >"$work/verdicts"; then
+    fail "must-fail: $log and the edits can be read"
+fi
+good=$(grep -c '^good ' "$work/verdicts")
+while read -r verdict name; do
+    if [ "$verdict" = bad ]; then
+        fail "$name"
+    fi
+done <"$work/verdicts"
 if [ "$good" -gt 0 ]; then
     pass "must-fail: $good edits are refused at the false fact that they name"
 fi

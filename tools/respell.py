@@ -1,7 +1,7 @@
 #!/usr/bin/env python3
 """Renames definitions and lemmas of this repository to today's spelling: words in snake case, a dash only between two names.
 
-usage: tools/respell.py        at the top of the repository, once, behind /opt/rattle/port/port.py
+usage: tools/respell.py        at the top of the repository, once, behind the kit's port.py
 
 tools/respell.tsv has a line for each name: the old one, a tab, the new one. Text of .antt files, and clauses and ghost uses of .rt files,
 are rewritten in place; comments change only where a name stands in backticks.

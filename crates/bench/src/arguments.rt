@@ -4,6 +4,7 @@ ghost use Rattle.std.specs.Prelude.{◌≡◌};
 ghost use Rattle.bench.specs.Arguments.{word_of, after_switches, after_files, after, nothing};
 
 use octets::{byte_at, same};
+use std::env::{Env, FillError};
 use tdes::Engine;
 
 // What one argument is. Unknown: it starts with a dash and is no switch.
@@ -93,50 +94,69 @@ fn after(asked: Asked, word: Word, at: usize) -> Asked
     }
 }
 
-// The argument of a number. One that can't be read is refused as an unknown one is.
-fn read_word(i: usize) -> Word {
-    let mut bytes = io::buffer();
-    let length = os::arg(i, &mut bytes);
-    if os::errno() != 0 {
-        return Word::Unknown;
+// Whether there is an argument of this number.
+fn is_given(rt: &impl Env, i: usize) -> bool {
+    !matches!(rt.arg(i, &mut []), Err(FillError::NotPresent))
+}
+
+// How many arguments there are, the program's name among them.
+pub fn count(rt: &impl Env) -> usize {
+    for i in 0..usize::MAX {
+        if !is_given(rt, i) {
+            return i;
+        }
     }
-    word_of(&bytes[..length])
+    usize::MAX
+}
+
+// The argument of a number. One that can't be read is refused as an unknown one is.
+fn read_word(rt: &impl Env, i: usize) -> Word {
+    let mut bytes = [0u8; 4096];
+    match rt.arg(i, &mut bytes) {
+        Ok(length) => word_of(&bytes[..length]),
+        Err(_) => Word::Unknown,
+    }
 }
 
 // What the program's arguments ask for.
-pub fn read() -> Asked {
-    let n = os::arg_count();
+pub fn read(rt: &impl Env) -> Asked {
+    let n = count(rt);
     let mut asked = nothing();
     for i in 1..n {
-        asked = after(asked, read_word(i), i);
+        asked = after(asked, read_word(rt, i), i);
     }
     asked
 }
 
+// Writes bytes. Where that fails, they are passed over.
+fn write(out: &impl Print, bytes: &[u8]) {
+    let _ = out.write_all(bytes);
+}
+
 // The usage, on standard output.
-pub fn help() {
-    io::write_all(1, b"usage: bench [--plain] [FILE..]\n");
-    io::write_all(
-        1,
+pub fn help(out: &impl Print) {
+    write(out, b"usage: bench [--plain] [FILE..]\n");
+    write(
+        out,
         b"Runs each bench file, or without one standard input, on a card of its own; README.md lists frames and lines.\n",
     );
-    io::write_all(
-        1,
+    write(
+        out,
         b"  --plain  by the plain engine, straight from FIPS 46-3, instead of the quick one; no line changes\n",
     );
-    io::write_all(1, b"  --help   prints this and does nothing else\n");
-    io::write_all(
-        1,
+    write(out, b"  --help   prints this and does nothing else\n");
+    write(
+        out,
         b"Switches stand before the first file. A file whose name starts with a dash is given as ./NAME.\n",
     );
 }
 
 // An argument that is refused: which, and what to do, on standard error. Its number is printed, and none of its bytes.
-pub fn refuse(at: usize) {
-    io::write_all(2, b"bench: argument ");
-    io::print_decimal(2, at as u64);
-    io::write_all(
-        2,
+pub fn refuse(errors: &impl Print, at: usize) {
+    write(errors, b"bench: argument ");
+    let _ = errors.print(at);
+    write(
+        errors,
         b" is no file's name and no switch before the first one: nothing is run; run 'bench --help'\n",
     );
 }

@@ -1,11 +1,13 @@
-// A bench file as it comes from a descriptor: in pieces of any size, each run as far as its frames are whole, before the next is awaited.
+// A bench file as it comes from a reader: in pieces of any size, each run as far as its frames are whole, before the next is awaited.
 ghost use Rattle.std.specs.Prelude.{◌≡◌, ◌≤◌, ◌<◌, length};
 ghost use Rattle.bench_file.specs.Stream.{longest_line};
 ghost use Rattle.bench.specs.Going.{turns_again, file_goes_on};
 ghost use Rattle.bench.specs.InHand.{HandTurned, HandDrained, PieceRun};
 
+use crate::failure::fail;
 use framing::Next;
 use session::{Session, unselected};
+use std::io::Read;
 use tdes::Engine;
 
 // How many of the bytes in hand are used, whether more can be used at once, whether the file goes on, whether all lines were written, and
@@ -57,16 +59,20 @@ fn goes_on(next: Next, done: bool) -> bool
 }
 
 // Writes to standard output, and says where that fails.
-fn write(bytes: &[u8]) -> bool {
-    let done = io::write_all(1, bytes);
-    if !done {
-        os::fail(b"standard output");
+fn write(out: &impl Print, errors: &impl Print, bytes: &[u8]) -> bool {
+    match out.write_all(bytes) {
+        Ok(()) => true,
+        Err(error) => {
+            fail(errors, b"standard output", error);
+            false
+        }
     }
-    done
 }
 
 // One turn, whose lines are written together.
 fn turn(
+    out: &impl Print,
+    errors: &impl Print,
     engine: Engine,
     memory: &mut [u8],
     session: Session,
@@ -81,7 +87,7 @@ fn turn(
     let turned = bench_file::turn(engine, memory, session, &input[used..], output);
     let n = turned.written;
     let next = turned.next;
-    let done = write(&output[0..n]);
+    let done = write(out, errors, &output[0..n]);
     let more = turned.used;
     let after = turned.session;
     Hand {
@@ -95,6 +101,8 @@ fn turn(
 
 // All whole frames in hand.
 fn run_in_hand(
+    out: &impl Print,
+    errors: &impl Print,
     engine: Engine,
     memory: &mut [u8],
     session: Session,
@@ -112,18 +120,33 @@ fn run_in_hand(
         session: session,
     };
     while hand.again {
-        hand = turn(engine, memory, hand.session, input, hand.used, output);
+        hand = turn(
+            out,
+            errors,
+            engine,
+            memory,
+            hand.session,
+            input,
+            hand.used,
+            output,
+        );
     }
     hand
 }
 
 // The end of the file.
-fn finish(rest: &[u8], session: Session, output: &mut [u8]) -> Kept
+fn finish(
+    out: &impl Print,
+    errors: &impl Print,
+    rest: &[u8],
+    session: Session,
+    output: &mut [u8],
+) -> Kept
     requires { longest_line ≤ length output.old }
     ensures { result.have ≡ 0 }
 {
     let n = bench_file::last_line(rest, output);
-    let done = write(&output[0..n]);
+    let done = write(out, errors, &output[0..n]);
     Kept {
         have: 0,
         on: false,
@@ -134,6 +157,8 @@ fn finish(rest: &[u8], session: Session, output: &mut [u8]) -> Kept
 
 // Runs the first bytes of the input area, and keeps what is left of them.
 fn run_piece(
+    out: &impl Print,
+    errors: &impl Print,
     engine: Engine,
     memory: &mut [u8],
     session: Session,
@@ -145,7 +170,15 @@ fn run_piece(
     ensures { PieceRun memory.old session input.old have output.old
         result memory.new input.new }
 {
-    let hand = run_in_hand(engine, memory, session, &input[0..have], output);
+    let hand = run_in_hand(
+        out,
+        errors,
+        engine,
+        memory,
+        session,
+        &input[0..have],
+        output,
+    );
     let left = framing::keep(input, hand.used, have);
     let after = hand.session;
     Kept {
@@ -158,8 +191,10 @@ fn run_piece(
 
 // Reads once, behind the bytes in hand.
 fn read_piece(
+    out: &impl Print,
+    errors: &impl Print,
     engine: Engine,
-    fd: i32,
+    file: &mut impl Read,
     name: &[u8],
     memory: &mut [u8],
     input: &mut [u8],
@@ -171,37 +206,64 @@ fn read_piece(
 {
     let have = kept.have;
     let session = kept.session;
-    let got = libc::read(fd, &mut input[have..]);
-    if got < 0 {
-        os::fail(name);
-        return Kept {
-            have: 0,
-            on: false,
-            done: false,
-            session: session,
-        };
-    }
-    let n = io::count(got, &input[have..]);
+    let n = match file.read(&mut input[have..]) {
+        Ok(n) => n,
+        Err(error) => {
+            fail(errors, name, error);
+            return Kept {
+                have: 0,
+                on: false,
+                done: false,
+                session: session,
+            };
+        }
+    };
     if n == 0 {
-        return finish(&input[0..have], session, output);
+        return finish(out, errors, &input[0..have], session, output);
     }
-    run_piece(engine, memory, session, input, have + n, output)
+    run_piece(
+        out,
+        errors,
+        engine,
+        memory,
+        session,
+        input,
+        have + n,
+        output,
+    )
 }
 
-// One bench file, with memory and session of its own. A proved loop has to end: it counts its turns down from a number that no run uses up.
-pub fn run(engine: Engine, fd: i32, name: &[u8]) {
+// One bench file, with memory and session of its own. A proved loop has to end: it counts its turns up to a number that no run reaches.
+pub fn run(
+    out: &impl Print,
+    errors: &impl Print,
+    engine: Engine,
+    file: &mut impl Read,
+    name: &[u8],
+) {
     let mut memory = [0; 4096];
-    let mut input = io::large_buffer();
-    let mut output = io::large_buffer();
+    let mut input = [0u8; 65536];
+    let mut output = [0u8; 65536];
     let mut kept = Kept {
         have: 0,
         on: true,
         done: true,
         session: unselected(),
     };
-    let mut turns = u64::MAX;
-    while 0 < turns && kept.on {
-        kept = read_piece(engine, fd, name, &mut memory, &mut input, &mut output, kept);
-        turns -= 1;
+    for _ in 0..u64::MAX {
+        if !kept.on {
+            break;
+        }
+        kept = read_piece(
+            out,
+            errors,
+            engine,
+            file,
+            name,
+            &mut memory,
+            &mut input,
+            &mut output,
+            kept,
+        );
     }
 }

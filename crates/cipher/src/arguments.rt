@@ -1,5 +1,7 @@
 // The arguments: none, `--plain` or `--help`.
+use crate::output::write;
 use octets::same;
+use std::env::{Env, FillError};
 
 // What the arguments ask for.
 #[derive(Clone, Copy)]
@@ -21,41 +23,44 @@ fn named(word: &[u8]) -> Asked {
     Asked::Unknown
 }
 
+// Whether there is an argument of this number.
+fn is_given(rt: &impl Env, i: usize) -> bool {
+    !matches!(rt.arg(i, &mut []), Err(FillError::NotPresent))
+}
+
 // What the program's arguments ask for.
-pub fn read() -> Asked {
-    let n = os::arg_count();
-    if n <= 1 {
+pub fn read(rt: &impl Env) -> Asked {
+    if !is_given(rt, 1) {
         return Asked::Quick;
     }
-    if n != 2 {
+    if is_given(rt, 2) {
         return Asked::Unknown;
     }
-    let mut word = io::buffer();
-    let length = os::arg(1, &mut word);
-    if os::errno() != 0 {
-        return Asked::Unknown;
+    let mut word = [0u8; 4096];
+    match rt.arg(1, &mut word) {
+        Ok(length) => named(&word[..length]),
+        Err(_) => Asked::Unknown, // one that has no room
     }
-    named(&word[..length])
 }
 
 // The usage, on standard output.
-pub fn help() {
-    io::write_all(1, b"usage: cipher [--plain]\n");
-    io::write_all(
-        1,
+pub fn help(out: &impl Print) {
+    write(out, b"usage: cipher [--plain]\n");
+    write(
+        out,
         b"Answers each line 'KIND KEY START TEXT' of standard input with a line; README.md lists the kinds.\n",
     );
-    io::write_all(
-        1,
+    write(
+        out,
         b"  --plain  by the plain engine, straight from FIPS 46-3, instead of the quick one; no answer changes\n",
     );
-    io::write_all(1, b"  --help   prints this and does nothing else\n");
+    write(out, b"  --help   prints this and does nothing else\n");
 }
 
 // Other arguments: what is wrong and what to do, on standard error.
-pub fn refuse() {
-    io::write_all(
-        2,
+pub fn refuse(errors: &impl Print) {
+    write(
+        errors,
         b"cipher: takes one argument at most, '--plain' or '--help': run 'cipher --help' for what they do\n",
     );
 }

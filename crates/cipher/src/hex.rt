@@ -1,6 +1,7 @@
 // Bytes as hexadecimal digits.
-ghost use Rattle.std.specs.Prelude.{◌≤◌};
-ghost use Rattle.io.specs.Counts.{IsPrefixLen};
+ghost use Rattle.std.specs.Prelude.{◌≡◌, ◌≤◌, length, take};
+
+use crate::output::write;
 
 // The value of a digit of either case, 16 for any other byte.
 fn value(c: u8) -> u8
@@ -17,7 +18,8 @@ fn value(c: u8) -> u8
 // Puts the bytes that `digits` say at the front of `out` and answers how many: 0 where there are none, an odd number of
 // digits, another byte among them, or no room.
 pub fn decode(digits: &[u8], out: &mut [u8]) -> usize
-    ensures { IsPrefixLen result out.new }
+    ensures inside { result ≤ length out.new }
+    ensures prefix { result ≡ length (take result out.new) }
 {
     let n = digits.len() / 2;
     if digits.len() % 2 != 0 {
@@ -59,7 +61,8 @@ fn digit_of(byte: u8, second: bool) -> u8 {
 
 // Puts the digits of `bytes` at the front of `out`, as far as there is room, and answers how many.
 fn encode(bytes: &[u8], out: &mut [u8]) -> usize
-    ensures { IsPrefixLen result out.new }
+    ensures inside { result ≤ length out.new }
+    ensures prefix { result ≡ length (take result out.new) }
 {
     let mut i = 0;
     while i < out.len() {
@@ -73,13 +76,13 @@ fn encode(bytes: &[u8], out: &mut [u8]) -> usize
 }
 
 // Writes a line: the digits of `bytes`, or a dash where there are none.
-pub fn print(bytes: &[u8]) {
+pub fn print(out: &impl Print, bytes: &[u8]) {
     if bytes.len() == 0 {
-        io::write_all(1, b"-\n");
+        write(out, b"-\n");
         return;
     }
-    let mut out = io::buffer();
-    let n = encode(bytes, &mut out);
-    io::write_all(1, &out[..n]);
-    io::write_all(1, b"\n");
+    let mut digits = [0u8; 4096];
+    let n = encode(bytes, &mut digits);
+    write(out, &digits[..n]);
+    write(out, b"\n");
 }

@@ -1,6 +1,7 @@
 // A test line: its four fields.
 ghost use Rattle.std.specs.Prelude.{◌≤◌, length};
 
+use crate::output::write;
 use crate::test;
 use tdes::Engine;
 
@@ -19,38 +20,38 @@ fn space(s: &[u8], from: usize) -> usize
     s.len()
 }
 
-fn malformed_fields() {
-    io::write_all(1, b"malformed: fields\n");
+fn malformed_fields(out: &impl Print) {
+    write(out, b"malformed: fields\n");
 }
 
-fn answer_whole(engine: Engine, s: &[u8]) {
+fn answer_whole(out: &impl Print, engine: Engine, s: &[u8]) {
     let n = s.len();
     let a = space(s, 0);
     if a == n {
-        return malformed_fields();
+        return malformed_fields(out);
     }
     let key = a + 1;
     let b = space(s, key);
     if b == n {
-        return malformed_fields();
+        return malformed_fields(out);
     }
     let start = b + 1;
     let c = space(s, start);
     if c == n {
-        return malformed_fields();
+        return malformed_fields(out);
     }
     let text = c + 1;
     if space(s, text) != n {
-        return malformed_fields();
+        return malformed_fields(out);
     }
-    test::answer(engine, &s[0..a], &s[key..b], &s[start..c], &s[text..])
+    test::answer(out, engine, &s[0..a], &s[key..b], &s[start..c], &s[text..])
 }
 
 // Answers the line of the first `used` bytes; a line that is longer than `line` is malformed.
-pub fn answer(engine: Engine, line: &[u8], used: usize) {
+pub fn answer(out: &impl Print, engine: Engine, line: &[u8], used: usize) {
     if line.len() < used {
-        io::write_all(1, b"malformed: line\n");
+        write(out, b"malformed: line\n");
         return;
     }
-    answer_whole(engine, &line[0..used])
+    answer_whole(out, engine, &line[0..used])
 }

@@ -6,9 +6,11 @@
 mod arguments;
 mod hex;
 mod line;
+mod output;
 mod test;
 
 use arguments::Asked;
+use std::io::Read;
 use tdes::Engine;
 
 // How many bytes are known of a line that is longer than the buffer.
@@ -16,9 +18,9 @@ const TOO_LONG: usize = 4097;
 
 // Takes one byte more of the line that `used` bytes are known of, and answers how many are known now. A line feed has the line
 // answered. Of a line that `line` has no room for, one byte too many is counted and the rest passed over.
-fn push(engine: Engine, byte: u8, line: &mut [u8], used: usize) -> usize {
+fn push(out: &impl Print, engine: Engine, byte: u8, line: &mut [u8], used: usize) -> usize {
     if byte == b'\n' {
-        line::answer(engine, line, used);
+        line::answer(out, engine, line, used);
         return 0;
     }
     if used < line.len() {
@@ -29,11 +31,11 @@ fn push(engine: Engine, byte: u8, line: &mut [u8], used: usize) -> usize {
 }
 
 // Takes bytes one after the other.
-fn push_all(engine: Engine, bytes: &[u8], line: &mut [u8], used: usize) -> usize {
+fn push_all(out: &impl Print, engine: Engine, bytes: &[u8], line: &mut [u8], used: usize) -> usize {
     let mut now = used;
     let mut i = 0;
     while i < bytes.len() {
-        now = push(engine, bytes[i], line, now);
+        now = push(out, engine, bytes[i], line, now);
         i += 1;
     }
     now
@@ -46,10 +48,16 @@ struct Begun {
     last: bool,
 }
 
-// Reads standard input once.
-fn read_some(engine: Engine, line: &mut [u8], used: usize) -> Begun {
-    let mut buffer = io::large_buffer();
-    let n = io::count(libc::read(0, &mut buffer), &buffer);
+// Reads once. A read that fails ends the input.
+fn read_some(
+    input: &mut impl Read,
+    out: &impl Print,
+    engine: Engine,
+    line: &mut [u8],
+    used: usize,
+) -> Begun {
+    let mut buffer = [0u8; 65536];
+    let n = input.read(&mut buffer).unwrap_or(0);
     if n == 0 {
         return Begun {
             used: used,
@@ -57,33 +65,35 @@ fn read_some(engine: Engine, line: &mut [u8], used: usize) -> Begun {
         };
     }
     Begun {
-        used: push_all(engine, &buffer[..n], line, used),
+        used: push_all(out, engine, &buffer[..n], line, used),
         last: false,
     }
 }
 
-// Answers the tests on standard input. A proved loop has to end: it counts its turns down from a number that no run uses up.
-fn answer_all(engine: Engine) {
-    let mut line = io::buffer();
+// Answers the tests on standard input. A proved loop has to end: it counts its turns up to a number that no run reaches.
+fn answer_all(rt: &(impl Input + Print), engine: Engine) {
+    let mut input = rt.reader();
+    let mut line = [0u8; 4096];
     let mut begun = Begun {
         used: 0,
         last: false,
     };
-    let mut turns = u64::MAX;
-    while 0 < turns && !begun.last {
-        begun = read_some(engine, &mut line, begun.used);
-        turns -= 1;
+    for _ in 0..u64::MAX {
+        begun = read_some(&mut input, rt, engine, &mut line, begun.used);
+        if begun.last {
+            break;
+        }
     }
     if 0 < begun.used {
-        line::answer(engine, &line, begun.used);
+        line::answer(rt, engine, &line, begun.used);
     }
 }
 
-fn main() {
-    match arguments::read() {
-        Asked::Quick => answer_all(Engine::Quick),
-        Asked::Plain => answer_all(Engine::Plain),
-        Asked::Help => arguments::help(),
-        Asked::Unknown => arguments::refuse(),
+fn main(rt: HostRuntime) {
+    match arguments::read(&rt) {
+        Asked::Quick => answer_all(&rt, Engine::Quick),
+        Asked::Plain => answer_all(&rt, Engine::Plain),
+        Asked::Help => arguments::help(&rt),
+        Asked::Unknown => arguments::refuse(&rt.stderr()),
     }
 }

@@ -1,5 +1,6 @@
 // A test: what its kind asks of the cipher.
 use crate::hex;
+use crate::output::write;
 use tdes::Engine;
 
 // What two-key triple DES is asked for; `true` where it deciphers.
@@ -63,22 +64,30 @@ fn repeated(engine: Engine, key: [u8; 8], decipher: bool, times: usize, block: [
     b
 }
 
-fn answer_des(engine: Engine, decipher: bool, times: usize, key: &[u8], start: &[u8], text: &[u8]) {
+fn answer_des(
+    out: &impl Print,
+    engine: Engine,
+    decipher: bool,
+    times: usize,
+    key: &[u8],
+    start: &[u8],
+    text: &[u8],
+) {
     let mut k = [0u8; 8];
     if hex::decode(key, &mut k) != 8 {
-        io::write_all(1, b"malformed: key\n");
+        write(out, b"malformed: key\n");
         return;
     }
     if !is_dash(start) {
-        io::write_all(1, b"malformed: start\n");
+        write(out, b"malformed: start\n");
         return;
     }
     let mut b = [0u8; 8];
     if hex::decode(text, &mut b) != 8 {
-        io::write_all(1, b"malformed: text\n");
+        write(out, b"malformed: text\n");
         return;
     }
-    hex::print(&repeated(engine, k, decipher, times, b))
+    hex::print(out, &repeated(engine, k, decipher, times, b))
 }
 
 // ECB takes no start value: its field is a dash.
@@ -97,54 +106,82 @@ fn cbc(engine: Engine, decipher: bool, key: [u8; 16], start: [u8; 8], text: &mut
     tdes::cbc_encipher(engine, key, start, text)
 }
 
-fn print_triple(engine: Engine, mode: Mode, key: [u8; 16], start: [u8; 8], text: &mut [u8]) {
+fn print_triple(
+    out: &impl Print,
+    engine: Engine,
+    mode: Mode,
+    key: [u8; 16],
+    start: [u8; 8],
+    text: &mut [u8],
+) {
     match mode {
         Mode::Ecb(decipher) => {
             tdes::ecb(engine, key, decipher, text);
-            hex::print(text)
+            hex::print(out, text)
         }
         Mode::Cbc(decipher) => {
             cbc(engine, decipher, key, start, text);
-            hex::print(text)
+            hex::print(out, text)
         }
-        Mode::Signature => hex::print(&tdes::signature(engine, key, start, text)),
+        Mode::Signature => hex::print(out, &tdes::signature(engine, key, start, text)),
     }
 }
 
-fn answer_text(engine: Engine, mode: Mode, key: [u8; 16], start: [u8; 8], field: &[u8]) {
+fn answer_text(
+    out: &impl Print,
+    engine: Engine,
+    mode: Mode,
+    key: [u8; 16],
+    start: [u8; 8],
+    field: &[u8],
+) {
     let mut text = [0u8; 2048];
     let n = hex::decode(field, &mut text);
     if n == 0 {
         if !is_dash(field) {
-            io::write_all(1, b"malformed: text\n");
+            write(out, b"malformed: text\n");
             return;
         }
     }
-    print_triple(engine, mode, key, start, &mut text[..n])
+    print_triple(out, engine, mode, key, start, &mut text[..n])
 }
 
-fn answer_triple(engine: Engine, mode: Mode, key: &[u8], start: &[u8], text: &[u8]) {
+fn answer_triple(
+    out: &impl Print,
+    engine: Engine,
+    mode: Mode,
+    key: &[u8],
+    start: &[u8],
+    text: &[u8],
+) {
     let mut k = [0u8; 16];
     if hex::decode(key, &mut k) != 16 {
-        io::write_all(1, b"malformed: key\n");
+        write(out, b"malformed: key\n");
         return;
     }
     let mut s = [0u8; 8];
     if !read_start(mode, start, &mut s) {
-        io::write_all(1, b"malformed: start\n");
+        write(out, b"malformed: start\n");
         return;
     }
-    answer_text(engine, mode, k, s, text)
+    answer_text(out, engine, mode, k, s, text)
 }
 
 // Writes the line that answers a test of these fields.
-pub fn answer(engine: Engine, kind: &[u8], key: &[u8], start: &[u8], text: &[u8]) {
+pub fn answer(
+    out: &impl Print,
+    engine: Engine,
+    kind: &[u8],
+    key: &[u8],
+    start: &[u8],
+    text: &[u8],
+) {
     let k = kind_of(kind);
     match k {
-        Kind::Des(decipher, times) => answer_des(engine, decipher, times, key, start, text),
-        Kind::Triple(mode) => answer_triple(engine, mode, key, start, text),
+        Kind::Des(decipher, times) => answer_des(out, engine, decipher, times, key, start, text),
+        Kind::Triple(mode) => answer_triple(out, engine, mode, key, start, text),
         Kind::Unknown => {
-            io::write_all(1, b"malformed: kind\n");
+            write(out, b"malformed: kind\n");
         }
     }
 }

@@ -1,4 +1,4 @@
--- `all_true_lem`: what is left of the tests decides. Assumes nothing.
+-- `all_true`: what is left of the tests decides. Assumes nothing.
 use mathlib.Core.Path.{refl, sym, ◌∙◌}
 use native.Mathlib.Omega.{arith}
 use Rattle.octets.proofs.Conditions.{test_fails, test_holds, tests_end}

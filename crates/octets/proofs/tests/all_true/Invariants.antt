@@ -1,4 +1,4 @@
--- `all_true_lem`: what is left of the tests decides. Assumes nothing.
+-- `all_true`: what is left of the tests decides. Assumes nothing.
 use Prim.Native.Nat.{◌-◌, ◌≤◌}
 use mathlib.Core.Path.{◌≡◌}
 use lib.ListN.{length, drop}
