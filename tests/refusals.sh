@@ -87,7 +87,8 @@ def place(crate, said, files):
     at = LAW.match(said)
     if not at or MISSING.search(said):
         return None
-    if os.path.basename(at[1]) in ("Answers.antt", "Invariants.antt", "Proof.antt"):
+    # (a file right in proofs/ has lemmas, whatever its name)
+    if os.path.dirname(at[1]) != "proofs" and os.path.basename(at[1]) in ("Answers.antt", "Invariants.antt", "Proof.antt"):
         return contract, module(crate, at[1]), os.path.basename(os.path.dirname(at[1]))
     return law, at[1], at[3]
 
