@@ -53,7 +53,7 @@ counted() {
     fi
 }
 
-# Builds a crate's static library for C over what is proved: crates/NAME/out/libNAME.a.
+# Builds a crate's static library for C, crates/NAME/out/libNAME.a. 'rt ci' keeps no library: in a new clone the crates below are built again.
 library() {
     (cd "crates/$1" && rt lib)
 }

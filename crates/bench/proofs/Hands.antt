@@ -92,12 +92,12 @@ module _ (m : List ℕ) (s : Session) (input : List ℕ) (used : ℕ) (out : Lis
       let k = turn-kept bench fitting (length out) (bench_of m s) (drop used input) tt in
       rw e.uses (omega (arith, k.0, length-drop used input))
 
-  turn_full : r.again ≡ true → is_full (turn bench (length out) (bench_of m s) (drop used input)).next ≡ true
+  turn_is_full : r.again ≡ true → is_full (turn bench (length out) (bench_of m s) (drop used input)).next ≡ true
   unfolding turns_again
-  turn_full t = both r.done _ (sym e.again ∙ t)
+  turn_is_full t = both r.done _ (sym e.again ∙ t)
 
   moved_on : r.again ≡ true → header_size ≤ (turn bench (length out) (bench_of m s) (drop used input)).used
-  moved_on t = full_moves bench (length out) (bench_of m s) (drop used input) l (turn_full t)
+  moved_on t = full_moves bench (length out) (bench_of m s) (drop used input) l (turn_is_full t)
 
   hand_moves : r.again ≡ true → used < r.used
   hand_moves t = let k = moved_on t in rw e.uses (omega arith)
@@ -113,7 +113,7 @@ module _ (m : List ℕ) (s : Session) (input : List ℕ) (used : ℕ) (out : Lis
       → Draining bench (length out) start (in_hand (drop r.used input) m' r.session false)
   unfolding again
   goes_further start t d =
-      let f = turn_full t in
+      let f = turn_is_full t in
       let k = moved_on t in
       let n = (turn-kept bench fitting (length out) (bench_of m s) (drop used input) tt).0 in
       let g = drain_again bench (length out) start here l (omega arith) f d in

@@ -1,4 +1,4 @@
--- `goes_on_lem`: a row for lines that are not written, and one arm a way to go on. Assumes nothing.
+-- `goes_on`: a row for lines that are not written, and one arm a way to go on. Assumes nothing.
 use Rattle.octets.proofs.Rules.{rules-not}
 use Rattle.framing.specs.Stream.{is_over, is_full}
 use Rattle.bench.specs.Going.{file_goes_on}
