@@ -48,7 +48,8 @@ def at(name, root):
 
 
 def count(name, **flags):
-    rule = re.sub(r"pick x\.(\w+) (\w+) 0", r"(\2 if \1 else 0)", body(changes, name))
+    rule = body(changes, name).replace("(is_some x.logged)", "x.logs")  # whether a change has a log record
+    rule = re.sub(r"pick x\.(\w+) (\w+) 0", r"(\2 if \1 else 0)", rule)
     return eval(rule, dict(sizes, **flags))
 
 

@@ -81,7 +81,10 @@ def place(crate, said, files):
     """What a refusal stands at: a kind of text, its file and its name."""
     at = CONTRACT.match(said)
     if at:
-        before = files.get(at[1], text(f"{crate}/{at[1]}")).split("\n")[: int(at[2])]
+        lines, line = files.get(at[1], text(f"{crate}/{at[1]}")).split("\n"), int(at[2])
+        while lines[line - 1].lstrip().startswith("#["):  # a function's attribute stands before it
+            line += 1
+        before = lines[:line]
         names = [found[1] for line in before for found in [re.search(r"^(?:[^/]*\s)?fn (\w+)", line)] if found]
         return (contract, at[1], names[-1]) if names else None
     at = LAW.match(said)

@@ -7,13 +7,21 @@ declared() {
     sed -nE 's/^ *((unfoldable|abbrev|pub|record|data) )*([[:alnum:]][^ ]*).*/\3/p' "$@"
 }
 
-# Whether a name stands for something: a file, `crate/edit`, `Enum::Variant`, `crate::function`, `Module.definition`, a crate, a module, a
-# law or a field.
+# Whether a name stands for something: a file, `crate/edit`, `Enum::Variant`, `crate::function`, `crate::Type::method`,
+# `crate::module::function`, `Module.definition`, a crate, a module, a law or a field.
 stands() {
-    local crate=${1%%::*} module=${1%%.*}
+    local crate=${1%%::*} module=${1%%.*} middle
     case $1 in
     */*) [ -e "$1" ] || [ -e "crates/$1" ] || [ -f "crates/${1%%/*}/must-fail/${1#*/}.edit" ] ;;
     [A-Z]*::*) grep -q -r -w -e "$1" crates/*/src ;;
+    *::*::*)
+        middle=${1#*::}
+        middle=${middle%%::*}
+        case $middle in
+        [A-Z]*) grep -q -r -E "impl.* $middle\b" "crates/$crate/src" && grep -q -r -w -E "(fn|const) ${1##*::}" "crates/$crate/src" ;;
+        *) grep -q -w -E "(fn|struct|enum|const) ${1##*::}" "crates/$crate/src/$middle.rt" ;;
+        esac
+        ;;
     *::*) grep -q -r -w -E "(fn|struct|enum|const) ${1##*::}" "crates/$crate/src" ;;
     *.*) declared crates/*/specs/"$module.antt" 2>/dev/null | grep -q -x -F -e "${1#*.}" ;;
     *) [ -d "crates/$1" ] || compgen -G "crates/*/*/$1.antt" >/dev/null || grep -q -x -F -e "$1" "$work/declared" ;;

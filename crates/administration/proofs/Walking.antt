@@ -1,98 +1,111 @@
--- A walk over TLVs, turn by turn: what `within` and `stored_all` say from an index on, with k the count of turns that is left.
--- Assumes nothing.
-use Prim.Native.Nat.{ℕ, zero, suc, ◌+◌, ◌-◌, ◌≤◌, ◌<◌, min}
-use mathlib.Core.Bool.{true, false}
+-- A walk over TLVs, one after the other: what `within` and `stored_all` say of what is left. Assumes nothing.
+use Prim.Native.Nat.{ℕ, zero, suc, ◌-◌, ◌≤◌, ◌<◌, min}
+use mathlib.Core.Bool.{true, ◌&&◌}
 use mathlib.Core.List.{List, [], ◌∷◌}
-use mathlib.Core.Path.{◌≡◌, refl, sym, ap, ◌∙◌}
+use mathlib.Core.Path.{◌≡◌, refl, ap, ◌∙◌}
 use native.Mathlib.Omega.{arith}
-use native.Mathlib.Decide.{dec_le}
-use native.Mathlib.Nat.{lt_of_not-le}
-use native.Mathlib.Numerals.{add-one, add-two}
-use borrow.Author.Tests.{le-leb, lt-leb}
+use borrow.Author.Tests.{le-leb}
+use lib.Dec.{leb}
 use lib.ListN.{length, get_or, take, drop, length-drop, drop_of_length-le}
-use lib.Seq.{drop-cons, drop-drop, take_all}
+use lib.Seq.{take_all, take-length}
 use Rattle.commands_spec.specs.declared.store.Stored.{Stored}
-use Rattle.commands_spec.specs.StoreData.{within, stored, stored_all}
+use Rattle.commands_spec.specs.StoreData.{within, stored, stored_all, acceptable}
 
--- a tag and a length byte lie ahead, or a tag alone
-two : (s : List ℕ) (at : ℕ) → at + 1 < length s → drop at s ≡ get_or s at 0 ∷ get_or s (at + 1) 0 ∷ drop (at + 2) s
-two s at h =
-    drop-cons s at 0 (omega arith)
-    ∙ ap (λ (r : List ℕ). get_or s at 0 ∷ r) (drop-cons s (suc at) 0 (omega arith))
-    ∙ rw (add-one, add-two)
+-- ---- what the code takes of the data: all behind a tag and a length byte, and of that all from an index on
 
-one : (s : List ℕ) (at : ℕ) → length s ≡ at + 1 → drop at s ≡ get_or s at 0 ∷ []
-one s at h =
-    drop-cons s at 0 (omega arith)
-    ∙ ap (λ (r : List ℕ). get_or s at 0 ∷ r) (drop_of_length-le s {i = suc at} (omega arith))
+abbrev pub tail : List ℕ → List ℕ
+tail r = take (length r - 2) (drop 2 r)
+
+abbrev pub after : ℕ → List ℕ → List ℕ
+after n t = take (length t - n) (drop n t)
+
+tail_is : (tag size : ℕ) (l : List ℕ) → tail (tag ∷ size ∷ l) ≡ l
+tail_is tag size l = let e : length (tag ∷ size ∷ l) - 2 ≡ length l = omega arith in rw e (take-length l)
+
+after_is : (n : ℕ) (t : List ℕ) → after n t ≡ drop n t
+after_is n t = take_all (length t - n) (drop n t) (rw length-drop (omega arith))
 
 -- ---- whether every TLV ends within the data
 
-pub within_end : (s : List ℕ) (at k : ℕ) → length s ≤ at → within k (drop at s) ≡ true
+-- by any count that is enough
+within-enough : (n m : ℕ) (l : List ℕ) → length l ≤ n → length l ≤ m → within n l ≡ within m l
 unfolding within
-within_end s at zero h = refl
-within_end s at (suc k) h = rw (drop_of_length-le s h)
+within-enough zero zero l h k = refl
+within-enough zero (suc m) [] h k = refl
+within-enough zero (suc m) (x ∷ l) h k = absurd (omega arith)
+within-enough (suc n) zero [] h k = refl
+within-enough (suc n) zero (x ∷ l) h k = absurd (omega arith)
+within-enough (suc n) (suc m) [] h k = refl
+within-enough (suc n) (suc m) (tag ∷ []) h k = refl
+within-enough (suc n) (suc m) (tag ∷ size ∷ l) h k =
+    ap (λ t. leb size (length l) && t) (within-enough n m (drop size l) (rw length-drop (omega arith)) (rw length-drop (omega arith)))
 
-module _ (s : List ℕ) (at : ℕ) where
-  -- a tag without a length byte
-  pub within-tag : (k : ℕ) → length s ≤ at + k → length s ≡ at + 1 → within k (drop at s) ≡ false
-  unfolding within
-  within-tag zero f h = absurd (omega arith)
-  within-tag (suc k) f h = rw (one s at h)
+within_turn : (tag size : ℕ) (l : List ℕ) → within (length (tag ∷ size ∷ l)) (tag ∷ size ∷ l) ≡ (leb size (length l) && within (length (drop size l)) (drop size l))
+unfolding within
+within_turn tag size l =
+    let h : length (drop size l) ≤ suc (length l) = rw length-drop (omega arith) in
+    ap (λ t. leb size (length l) && t) (within-enough (suc (length l)) (length (drop size l)) (drop size l) h (omega arith))
 
-  -- a value past the end
-  pub within_past : (k : ℕ) → length s ≤ at + k → at + 1 < length s → length s - at - 2 < get_or s (at + 1) 0 → within k (drop at s) ≡ false
-  unfolding within
-  within_past zero f h p = absurd (omega arith)
-  within_past (suc k) f h p = rw (two s at h, length-drop (at + 2) s, lt-leb (get_or s (at + 1) 0) (length s - (at + 2)) (omega arith))
-
-  pub within-turn : (k : ℕ) → length s ≤ at + k → at + 1 < length s → get_or s (at + 1) 0 ≤ length s - at - 2 → (j : ℕ) × (k ≡ suc j) × (within k (drop at s) ≡ within j (drop (at + 2 + get_or s (at + 1) 0) s))
-  unfolding within
-  within-turn zero f h p = absurd (omega arith)
-  within-turn (suc k) f h p =
-      (k, refl, rw (two s at h, length-drop (at + 2) s, le-leb (get_or s (at + 1) 0) (length s - (at + 2)) (omega arith), drop-drop (get_or s (at + 1) 0) (at + 2) s))
+pub within_next : (r : List ℕ) (n : ℕ) → 2 ≤ length r → n ≡ get_or r 1 0 → n ≤ length (tail r) → within (length r) r ≡ within (length (after n (tail r))) (after n (tail r))
+within_next [] n h e k = absurd (omega arith)
+within_next (x ∷ []) n h e k = absurd (omega arith)
+within_next (tag ∷ size ∷ l) n h e k =
+    let t = tail_is tag size l in
+    let p : n ≡ size = e in
+    let j : n ≤ length l = omega (arith, ap length t) in
+    rw (t, after_is n l) (within_turn tag size l ∙ rw (← p, le-leb n (length l) j))
 
 -- ---- what they store
 
 -- a size past the end counts as what there is
 take_capped : (l : List ℕ) (n : ℕ) → take (min (length l) n) l ≡ take n l
-take_capped l n = elim (dec_le n (length l)) [ yes h ↦ whole h | no h ↦ past (lt_of_not-le h) ]
-  where
-    whole : n ≤ length l → take (min (length l) n) l ≡ take n l
-    whole h = let e : min (length l) n ≡ n = omega arith in rw e
-
-    past : length l < n → take (min (length l) n) l ≡ take n l
-    past h = take_all (min (length l) n) l (omega arith) ∙ sym (take_all n l (omega arith))
+take_capped l n = grind (arith, take_all)
 
 drop_capped : (l : List ℕ) (n : ℕ) → drop (min (length l) n) l ≡ drop n l
-drop_capped l n = elim (dec_le n (length l)) [ yes h ↦ whole h | no h ↦ past (lt_of_not-le h) ]
-  where
-    whole : n ≤ length l → drop (min (length l) n) l ≡ drop n l
-    whole h = let e : min (length l) n ≡ n = omega arith in rw e
+drop_capped l n = grind (arith, drop_of_length-le)
 
-    past : length l < n → drop (min (length l) n) l ≡ drop n l
-    past h = drop_of_length-le l {i = min (length l) n} (omega arith) ∙ sym (drop_of_length-le l {i = n} (omega arith))
+-- by any count that is enough
+stored-enough : (n m : ℕ) (dek l : List ℕ) (st : Stored) → length l ≤ n → length l ≤ m → stored_all n dek l st ≡ stored_all m dek l st
+unfolding stored_all
+stored-enough zero zero dek l st h k = refl
+stored-enough zero (suc m) dek [] st h k = refl
+stored-enough zero (suc m) dek (x ∷ l) st h k = absurd (omega arith)
+stored-enough (suc n) zero dek [] st h k = refl
+stored-enough (suc n) zero dek (x ∷ l) st h k = absurd (omega arith)
+stored-enough (suc n) (suc m) dek [] st h k = refl
+stored-enough (suc n) (suc m) dek (tag ∷ []) st h k = refl
+stored-enough (suc n) (suc m) dek (tag ∷ size ∷ l) st h k =
+    stored-enough n m dek (drop size l) (stored dek st tag (take size l)) (rw length-drop (omega arith)) (rw length-drop (omega arith))
 
-module _ (dek s : List ℕ) (at : ℕ) (st : Stored) where
-  pub stored_end : (k : ℕ) → length s ≤ at → stored_all k dek (drop at s) st ≡ st
-  unfolding stored_all
-  stored_end zero h = refl
-  stored_end (suc k) h = rw (drop_of_length-le s h)
+stored_turn : (dek : List ℕ) (tag size : ℕ) (l : List ℕ) (st : Stored) (e : ℕ)
+    → e ≡ min (length l) size
+    → stored_all (length (tag ∷ size ∷ l)) dek (tag ∷ size ∷ l) st ≡ stored_all (length (drop e l)) dek (drop e l) (stored dek st tag (take e l))
+unfolding stored_all
+stored_turn dek tag size l st e p =
+    let h : length (drop size l) ≤ suc (length l) = rw length-drop (omega arith) in
+    rw (p, take_capped l size, drop_capped l size)
+    (stored-enough (suc (length l)) (length (drop size l)) dek (drop size l) (stored dek st tag (take size l)) h (omega arith))
 
-  pub stored-tag : (k : ℕ) → length s ≤ at + k → length s ≡ at + 1 → stored_all k dek (drop at s) st ≡ st
-  unfolding stored_all
-  stored-tag zero f h = absurd (omega arith)
-  stored-tag (suc k) f h = rw (one s at h)
+pub stored_next : (dek r : List ℕ) (st next : Stored) (n e : ℕ)
+    → 2 ≤ length r → n ≡ get_or r 1 0 → e ≡ min (length (tail r)) n → next ≡ stored dek st (get_or r 0 0) (take e (tail r))
+    → stored_all (length r) dek r st ≡ stored_all (length (after e (tail r))) dek (after e (tail r)) next
+stored_next dek [] st next n e h f p q = absurd (omega arith)
+stored_next dek (x ∷ []) st next n e h f p q = absurd (omega arith)
+stored_next dek (tag ∷ size ∷ l) st next n e h f p q =
+    let t = tail_is tag size l in
+    let z : e ≡ min (length l) size = p ∙ ap (λ (v : List ℕ). min (length v) n) t ∙ ap (min (length l)) f in
+    let y : next ≡ stored dek st tag (take e l) = q ∙ ap (λ (v : List ℕ). stored dek st tag (take e v)) t in
+    rw (t, after_is e l, y) (stored_turn dek tag size l st e z)
 
-  -- a turn, where w is what all comes to: the value is the part from at + 2 to e
-  pub stored-turn : {w next : Stored} (k e : ℕ) → length s ≤ at + k → w ≡ stored_all k dek (drop at s) st → at + 1 < length s → e ≡ at + 2 + min (length s - (at + 2)) (get_or s (at + 1) 0) → next ≡ stored dek st (get_or s at 0) (take (e - (at + 2)) (drop (at + 2) s)) → (j : ℕ) × (length s ≤ e + j) × (w ≡ stored_all j dek (drop e s) next)
-  unfolding stored_all
-  stored-turn zero e f a h p q = absurd (omega arith)
-  stored-turn (suc k) e f a h p q =
-      let size = get_or s (at + 1) 0 in
-      let l = drop (at + 2) s in
-      let m : e - (at + 2) ≡ min (length l) size = rw (length-drop (at + 2) s) (omega arith) in
-      let t : take (e - (at + 2)) l ≡ take size l = rw m (take_capped l size) in
-      let i : e ≡ at + 2 + min (length l) size = rw (length-drop (at + 2) s) p in
-      let d : drop e s ≡ drop size l = rw i (sym (drop-drop (min (length l) size) (at + 2) s) ∙ drop_capped l size) in
-      (k, omega arith, a ∙ rw (two s at h, d, q, t))
+-- fewer than two bytes store nothing
+pub stored_end : (dek r : List ℕ) (st : Stored) → length r < 2 → stored_all (length r) dek r st ≡ st
+unfolding stored_all
+stored_end dek [] st h = refl
+stored_end dek (x ∷ []) st h = refl
+stored_end dek (x ∷ y ∷ l) st h = absurd (omega arith)
+
+-- ---- a tag that is acceptable is below 8
+
+pub accepted_below : (seen : List ℕ) (tag : ℕ) (v : List ℕ) → acceptable seen tag v ≡ true → tag < 8
+unfolding acceptable
+accepted_below seen tag v e = grind arith

@@ -3,46 +3,41 @@ ghost use Rattle.std.specs.Prelude.{◌≡◌, []};
 ghost use Rattle.commands_spec.specs.PinChange.{pin_change_of};
 
 use crate::answer::granted;
-use card::updates::{with_pin, with_tries};
-use card::{Head, well_formed};
-use channel::received8;
+use apdu::Refusal;
+use card::well_formed;
+use channel::received;
 use commands_spec::{Commits, Outcome};
-use objects::{dek_of, refused};
-use session::access::access;
-use session::{ADMIN, Session, ended, flagged};
-use tdes::Engine;
+use objects::Context;
+use session::Access;
 
 // No data: the PIN stays, and no block is judged.
-pub fn unblock_pin(head: Head, session: Session) -> Outcome
-    ensures { result ≡ pin_change_of head session [] }
+#[tactic(auto, unfolding(commands_spec::specs::PinChange::pin_change_of, commands_spec::specs::PinChange::pin_status, commands_spec::specs::Outcomes::decided))]
+pub fn unblock_pin(context: &Context) -> Outcome
+    ensures { result ≡ pin_change_of context.now.head context.now.session [] }
 {
-    let channel = session.channel;
-    let level = channel.level;
-    let pin = head.pin;
-    let fixed = head.fixed;
-    if !pin.defined {
-        return refused(head, ended(session), 0x6A81);
+    let head = &context.head;
+    if !head.pin.defined {
+        return context.refused(Refusal::FeatureMissing);
     }
-    if access(level) < ADMIN {
-        return refused(head, ended(session), 0x6982);
+    if context.access() < Access::Admin {
+        return context.refused(Refusal::SecurityNotSatisfied);
     }
-    let next = with_tries(fixed.maxtries, head);
-    granted(Commits::Hot, next, flagged(false, session))
+    let next = head.with_tries(head.fixed.maxtries);
+    granted(Commits::Hot, next, context.session.flagged(false))
 }
 
 // A PIN under the DEK.
-pub fn change_pin(engine: Engine, head: Head, session: Session, body: [u8; 8]) -> Outcome
-    ensures { result ≡ pin_change_of head session body }
+#[tactic(auto, unfolding(commands_spec::specs::PinChange::pin_change_of, commands_spec::specs::PinChange::pin_status, commands_spec::specs::Outcomes::decided))]
+pub fn change_pin(context: &Context, body: [u8; 8]) -> Outcome
+    ensures { result ≡ pin_change_of context.now.head context.now.session body }
 {
-    let channel = session.channel;
-    let level = channel.level;
-    if access(level) < ADMIN {
-        return refused(head, ended(session), 0x6982);
+    if context.access() < Access::Admin {
+        return context.refused(Refusal::SecurityNotSatisfied);
     }
-    let block = received8(engine, dek_of(level, head), body);
+    let block = received(context.engine, context.dek(), body);
     if !well_formed(block) {
-        return refused(head, ended(session), 0x6A80);
+        return context.refused(Refusal::WrongData);
     }
-    let next = with_pin(block, head);
-    granted(Commits::HotAndCold, next, flagged(false, session))
+    let next = context.head.with_pin(block);
+    granted(Commits::HotAndCold, next, context.session.flagged(false))
 }

@@ -1,205 +1,130 @@
 // STORE DATA: a list of tag, length, value, which personalizes the card.
-ghost use Rattle.std.specs.Prelude.{◌≡◌, ◌+◌, ◌-◌, min, length, set};
-ghost use Rattle.commands_spec.specs.StoreData.{acceptable, complete, personalized, rejected, store_data_of, store_status};
+ghost use Rattle.std.specs.Prelude.{◌≡◌, ◌&&◌, length, true};
+ghost use Rattle.apdu.specs.Refusals.{status_of};
+ghost use Rattle.session.specs.Access.{access};
+ghost use Rattle.commands_spec.specs.StoreData.{acceptable, complete, personalized, store_data_of, store_status};
 ghost use Rattle.commands_spec.specs.StoreData.{stored, stored_all, unread, within};
 
 use crate::answer::granted;
-use card::Head;
-use card::updates::with_parameters;
+use apdu::{Refusal, ensure};
+use card::{Head, Parameters};
 use commands_spec::store::Stored;
 use commands_spec::{Commits, Outcome};
-use objects::{datum_set, dek_of, refused, value_ok};
-use octets::both;
-use session::access::access;
-use session::{ADMIN, Session, ended};
+use objects::{Context, datum_set, value_ok};
+use session::Access;
 use tdes::Engine;
 
-// STORE DATA; `inside` says that no TLV is past the end, `good` that the rest of the data is right.
-pub fn store_status(personalized: bool, keyed: bool, held: u8, inside: bool, good: bool) -> u16
-    ensures { result ≡ store_status personalized keyed held inside good }
-{
-    if personalized {
-        return 0x6985;
-    }
-    if !keyed {
-        return 0x6985;
-    }
-    if held < ADMIN {
-        return 0x6982;
-    }
-    if !inside {
-        return 0x6A85;
-    }
-    if !good {
-        return 0x6A80;
-    }
-    0x9000
-}
-
 // Whether every TLV ends within the data.
+#[tactic(auto, using(crate::proofs::Walking::within_next), unfolding(commands_spec::specs::StoreData::within))]
 pub fn within(s: &[u8]) -> bool
     ensures { result ≡ within (length s.now) s.now }
 {
-    let n = s.len();
-    let mut at = 0;
-    while at < n {
-        if n - at < 2 {
+    let mut rest = s;
+    while let [_, size, tail @ ..] = rest {
+        let size = usize::from(*size);
+        if tail.len() < size {
             return false;
         }
-        let size = s[at + 1] as usize;
-        if n - at - 2 < size {
-            return false;
-        }
-        at = at + 2 + size;
+        rest = &tail[size..];
     }
-    true
-}
-
-// A TLV was refused.
-fn rejected(st: Stored) -> Stored
-    ensures { result ≡ rejected st }
-{
-    let mut t = st;
-    t.good = false;
-    t
+    rest.is_empty()
 }
 
 // A tag of 01 to 07 that hasn't come before, with a value of its length and range.
-fn is_acceptable(seen: [u8; 8], tag: u8, v: &[u8]) -> bool
-    ensures { result ≡ acceptable seen tag v.now }
+#[tactic(auto, unfolding(commands_spec::specs::StoreData::acceptable))]
+fn acceptable(seen: &[u8; 8], tag: u8, v: &[u8]) -> bool
+    ensures { result ≡ acceptable seen.now tag v.now }
 {
-    if tag < 0x01 {
-        return false;
-    }
-    if 0x07 < tag {
-        return false;
-    }
-    let at = tag as usize;
-    if seen[at] != 0 {
-        return false;
-    }
-    value_ok(tag, v)
-}
-
-// A tag has come.
-fn marked(seen: [u8; 8], tag: u8) -> [u8; 8]
-    ensures { result ≡ set seen tag 1 }
-{
-    let at = tag as usize;
-    if 7 < at {
-        return seen;
-    }
-    let mut r = seen;
-    r[at] = 1;
-    r
+    matches!(tag, 0x01..=0x07) && seen[usize::from(tag)] == 0 && value_ok(tag, v)
 }
 
 // One TLV more.
-pub fn stored(engine: Engine, dek: [u8; 16], st: Stored, tag: u8, v: &[u8]) -> Stored
+#[tactic(auto, using(crate::proofs::Walking::accepted_below), unfolding(commands_spec::specs::StoreData::stored, commands_spec::specs::StoreData::rejected))]
+pub fn stored(engine: Engine, dek: [u8; 16], mut st: Stored, tag: u8, v: &[u8]) -> Stored
     ensures { result ≡ stored dek st tag v.now }
 {
-    let seen = st.seen;
-    if !is_acceptable(seen, tag, v) {
-        return rejected(st);
+    if acceptable(&st.seen, tag, v) {
+        st.seen[usize::from(tag)] = 1;
+        st.head = datum_set(engine, dek, tag, v, &st.head);
+    } else {
+        st.good = false;
     }
-    let tags = marked(seen, tag);
-    let old = st.head;
-    let head = datum_set(engine, dek, tag, v, old);
-    Stored {
-        good: st.good,
-        seen: tags,
-        head: head,
-    }
-}
-
-// Where a value ends that starts at `start`: the data's end, where it would be past it.
-fn end_of(n: usize, start: usize, size: u8) -> usize
-    ensures { result ≡ start + min (n - start) size }
-{
-    if n < start {
-        return start;
-    }
-    if n - start < size as usize {
-        return n;
-    }
-    start + size as usize
+    st
 }
 
 // All TLVs, one after the other.
+#[tactic(auto, using(crate::proofs::Walking::stored_next, crate::proofs::Walking::stored_end))]
 pub fn stored_all(engine: Engine, dek: [u8; 16], s: &[u8], head: Head) -> Stored
     ensures { result ≡ stored_all (length s.now) dek s.now (unread head) }
 {
-    let n = s.len();
     let mut st = Stored {
         good: true,
         seen: [0; 8],
-        head: head,
+        head,
     };
-    let mut at = 0;
-    while at < n {
-        if n - at < 2 {
-            return st;
-        }
-        let start = at + 2;
-        let end = end_of(n, start, s[at + 1]);
-        st = stored(engine, dek, st, s[at], &s[start..end]);
-        at = end;
+    let mut rest = s;
+    while let [tag, size, tail @ ..] = rest {
+        let end = tail.len().min(usize::from(*size));
+        st = stored(engine, dek, st, *tag, &tail[..end]);
+        rest = &tail[end..];
     }
     st
 }
 
 // Whether tags 01 to 05 have come.
-pub fn complete(seen: [u8; 8]) -> bool
-    ensures { result ≡ complete seen }
+#[tactic(auto, unfolding(commands_spec::specs::StoreData::complete))]
+pub fn complete(seen: &[u8; 8]) -> bool
+    ensures { result ≡ complete seen.now }
 {
-    if seen[1] != 1 {
-        return false;
-    }
-    if seen[2] != 1 {
-        return false;
-    }
-    if seen[3] != 1 {
-        return false;
-    }
-    if seen[4] != 1 {
-        return false;
-    }
-    seen[5] == 1
+    matches!(seen, [_, 1, 1, 1, 1, 1, ..])
 }
 
 // The card is personalized.
-pub fn personalized(head: Head) -> Head
-    ensures { result ≡ personalized head }
+#[tactic(auto, unfolding(commands_spec::specs::StoreData::personalized))]
+pub fn personalized(head: &Head) -> Head
+    ensures { result ≡ personalized head.now }
 {
-    let purse = head.purse;
-    let mut p = purse.parameters;
-    p.personalized = true;
-    with_parameters(p, head)
+    head.with_parameters(Parameters {
+        personalized: true,
+        ..head.purse.parameters
+    })
+}
+
+// 01's rules before the values are read: no TLV is past the end.
+#[tactic(auto, unfolding(commands_spec::specs::StoreData::store_status))]
+pub fn store_status(context: &Context, body: &[u8]) -> Result<(), Refusal>
+    ensures { status_of result ≡ store_status context.now.head.purse.parameters.personalized
+        (context.now.head.purse.debit.defined && context.now.head.purse.credit.defined)
+        (access context.now.session.channel.level) (within (length body.now) body.now) true }
+{
+    let purse = &context.head.purse;
+    let keyed = purse.debit.defined && purse.credit.defined;
+    ensure(
+        !purse.parameters.personalized && keyed,
+        Refusal::ConditionsNotSatisfied,
+    )?;
+    ensure(
+        Access::Admin <= context.access(),
+        Refusal::SecurityNotSatisfied,
+    )?;
+    ensure(within(body), Refusal::DataPastEnd)
 }
 
 // The data that personalizes the card.
-pub fn store_data(engine: Engine, head: Head, session: Session, body: &[u8]) -> Outcome
-    ensures { result ≡ store_data_of head session body.now }
+#[tactic(auto, using(crate::proofs::Early::refused_early, crate::proofs::Early::passed_early), unfolding(commands_spec::specs::StoreData::store_data_of))]
+pub fn store_data(context: &Context, body: &[u8]) -> Outcome
+    ensures { result ≡ store_data_of context.now.head context.now.session body.now }
 {
-    let channel = session.channel;
-    let level = channel.level;
-    let purse = head.purse;
-    let left = ended(session);
-    let w = store_status(
-        purse.parameters.personalized,
-        both(purse.debit.defined, purse.credit.defined),
-        access(level),
-        within(body),
-        true,
-    );
-    if w != 0x9000 {
-        return refused(head, left, w);
+    if let Err(refusal) = store_status(context, body) {
+        return context.refused(refusal);
     }
-    let st = stored_all(engine, dek_of(level, head), body, head);
-    let seen = st.seen;
-    let filled = st.head;
-    if !both(st.good, complete(seen)) {
-        return refused(head, left, 0x6A80);
+    let st = stored_all(context.engine, context.dek(), body, context.head);
+    if !(st.good && complete(&st.seen)) {
+        return context.refused(Refusal::WrongData);
     }
-    granted(Commits::HotAndCold, personalized(filled), left)
+    granted(
+        Commits::HotAndCold,
+        personalized(&st.head),
+        context.session.ended(),
+    )
 }

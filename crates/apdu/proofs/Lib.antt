@@ -1,3 +1,4 @@
 pub mod Table
 pub mod Shapes
 pub mod Order
+pub mod Refusing

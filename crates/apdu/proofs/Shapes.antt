@@ -4,6 +4,7 @@ use mathlib.Core.Bool.{true, ◌||◌}
 use mathlib.Core.List.{List, [], ◌∷◌, ◌++◌}
 use mathlib.Core.Logic.{◌↔◌}
 use mathlib.Core.Path.{◌≡◌, refl, sym, ap, subst, ◌∙◌}
+use Rattle.std.specs.Prelude.{Result, Ok, Err}
 use Prim.Native.Nat.{ℕ, ◌+◌, ◌≤◌, ◌<◌}
 use native.Mathlib.Omega.{arith}
 use native.Mathlib.Decide.{dec_le}
@@ -12,11 +13,11 @@ use lib.Dec.{ltb, eqb}
 use lib.ListN.{length, take, drop, length-append, length-drop, take-append-drop}
 use lib.Seq.{length-take-le}
 use Rattle.octets.specs.Bytes.{byte_at}
-use Rattle.octets.proofs.Rules.{first, or_left, or_right}
+use Rattle.octets.proofs.Rules.{first, or_left, or_right, pick_holds}
 use Rattle.octets.proofs.Parts.{part-between}
 use Rattle.apdu.specs.declared.parsing.Apdu.{Apdu}
-use Rattle.apdu.specs.declared.parsing.Parsed.{Parsed}
-use Rattle.apdu.specs.declared.parsing.Parsed.TheVariants.{Command, WrongLength}
+use Rattle.apdu.specs.declared.refusals.Refusal.{Refusal}
+use Rattle.apdu.specs.declared.refusals.Refusal.TheVariants.{WrongLength}
 use Rattle.apdu.specs.Parsing.{headed, parsed, data_of}
 
 -- the header that leads the bytes c, with lc bytes of data
@@ -37,7 +38,7 @@ unfolding parsed
 parsed_bare c h k = rw (le-ltb (length c) 4 h) (sym (first (ltb (length c) 6) _ _ _ (lt-ltb (length c) 6 (omega arith)) refl))
 
 -- more of them, with Lc 00
-parsed-none : (c : List ℕ) → 6 ≤ length c → byte_at c 4 ≡ 0 → parsed c ≡ WrongLength
+parsed-none : (c : List ℕ) → 6 ≤ length c → byte_at c 4 ≡ 0 → parsed c ≡ Err WrongLength
 unfolding parsed
 parsed-none c h z =
     rw (le-ltb (length c) 4 (omega arith), le-ltb (length c) 6 h) (sym (first (eqb (byte_at c 4) 0) _ _ _ (eq-eqb (byte_at c 4) 0 z) refl))
@@ -58,7 +59,7 @@ module _ (c : List ℕ) (some : 1 ≤ byte_at c 4) where
           ]
 
   -- any other number
-  parsed_other : 6 ≤ length c → (5 + byte_at c 4 ≤ length c → length c ≤ 6 + byte_at c 4 → ⊥) → parsed c ≡ WrongLength
+  parsed_other : 6 ≤ length c → (5 + byte_at c 4 ≤ length c → length c ≤ 6 + byte_at c 4 → ⊥) → parsed c ≡ Err WrongLength
   unfolding parsed
   parsed_other h n =
       let u = ne_eqb (length c) (5 + byte_at c 4) (λ e. n (omega arith) (omega arith)) in
@@ -67,13 +68,13 @@ module _ (c : List ℕ) (some : 1 ≤ byte_at c 4) where
 
 -- ---- bytes of such a shape are that command
 
-shaped : (c : List ℕ) (a : Apdu) → Shape c a → parsed c ≡ Command a
+shaped : (c : List ℕ) (a : Apdu) → Shape c a → parsed c ≡ Ok a
 shaped c a (four l e) =
     let n = ap length e in
-    parsed_bare c (omega arith) (omega arith) ∙ rw e (ap (λ (n : ℕ). Command (record { cla = a.cla; ins = a.ins; p1 = a.p1; p2 = a.p2; lc = n })) (sym l))
+    parsed_bare c (omega arith) (omega arith) ∙ rw e (ap (λ (n : ℕ). Ok (record { cla = a.cla; ins = a.ins; p1 = a.p1; p2 = a.p2; lc = n })) (sym l))
 shaped c a (five l le e) =
     let n = ap length e in
-    parsed_bare c (omega arith) (omega arith) ∙ rw e (ap (λ (n : ℕ). Command (record { cla = a.cla; ins = a.ins; p1 = a.p1; p2 = a.p2; lc = n })) (sym l))
+    parsed_bare c (omega arith) (omega arith) ∙ rw e (ap (λ (n : ℕ). Ok (record { cla = a.cla; ins = a.ins; p1 = a.p1; p2 = a.p2; lc = n })) (sym l))
 shaped c a (full body le h l m e) =
     let n = ap length e in
     let k = length-append body le in
@@ -82,10 +83,10 @@ shaped c a (full body le h l m e) =
 
 -- ---- and no others are
 
-never : (a : Apdu) → WrongLength ≡ Command a → ⊥
+never : (a : Apdu) → Err WrongLength ≡ Ok a → ⊥
 never a e = let z : ◌≡◌ {A = ℕ} 0 1 = cc in omega arith
 
-shape : (c : List ℕ) (a : Apdu) → parsed c ≡ Command a → Shape c a
+shape : (c : List ℕ) (a : Apdu) → parsed c ≡ Ok a → Shape c a
 unfolding parsed
 shape [] a e = absurd (never a e)
 shape (x ∷ []) a e = absurd (never a e)
@@ -104,7 +105,7 @@ shape (x ∷ y ∷ z ∷ v ∷ n ∷ w ∷ r) a e = elim (dec_le 1 n) [ yes o �
 
     whole : 1 ≤ n → 5 + n ≤ length c → length c ≤ 6 + n → Shape c a
     whole o h k =
-        let f : headed c n ≡ Command a = sym (parsed_full c o h k) ∙ e in
+        let f : headed c n ≡ Ok a = sym (parsed_full c o h k) ∙ e in
         let q : record { cla = x; ins = y; p1 = z; p2 = v; lc = n } ≡ a = cc in
         let d : length (drop n (w ∷ r)) ≤ 1 = rw (length-drop n (w ∷ r)) (omega arith) in
         let s = take-append-drop n (w ∷ r) in
@@ -120,20 +121,37 @@ shape (x ∷ y ∷ z ∷ v ∷ n ∷ w ∷ r) a e = elim (dec_le 1 n) [ yes o �
           | no h ↦ other o (λ l m. h l)
         ]
 
-unshaped : (c : List ℕ) (p : Parsed) → parsed c ≡ p → ((a : Apdu) → Shape c a → ⊥) → p ≡ WrongLength
-unshaped c (Command a) e n = absurd (n a (shape c a e))
-unshaped c WrongLength e n = refl
+-- what the row says of a refusal
+abbrev ByLength : Result Apdu Refusal → Type 0
+ByLength (Ok a) = Unit {0}
+ByLength (Err r) = r ≡ WrongLength
 
-apart : (p : Parsed) (a : Apdu) → p ≡ WrongLength → p ≡ Command a → ⊥
+by_length : (c : List ℕ) → ByLength (parsed c)
+unfolding parsed
+by_length c =
+    pick_holds ByLength (ltb (length c) 4) _ _ (λ e. refl)
+    (λ e. pick_holds ByLength (ltb (length c) 6) _ _ (λ e. tt)
+    (λ e. pick_holds ByLength (eqb (byte_at c 4) 0) _ _ (λ e. refl)
+    (λ e. pick_holds ByLength (eqb (length c) (5 + byte_at c 4) || eqb (length c) (6 + byte_at c 4)) _ _ (λ e. tt) (λ e. refl))))
+
+-- a refusal of step 1 is this one
+pub refused_length : (P : Refusal → Type 0) → P WrongLength → (c : List ℕ) (r : Refusal) → parsed c ≡ Err r → P r
+refused_length P w c r e = let q : r ≡ WrongLength = rw e at (by_length c) in rw q w
+
+unshaped : (c : List ℕ) (p : Result Apdu Refusal) → parsed c ≡ p → ((a : Apdu) → Shape c a → ⊥) → p ≡ Err WrongLength
+unshaped c (Ok a) e n = absurd (n a (shape c a e))
+unshaped c (Err r) e n = ap Err (refused_length (λ (x : Refusal). x ≡ WrongLength) refl c r e)
+
+apart : (p : Result Apdu Refusal) (a : Apdu) → p ≡ Err WrongLength → p ≡ Ok a → ⊥
 apart p a e f = let z : ◌≡◌ {A = ℕ} 0 1 = cc in omega arith
 
 -- ---- step 1
 
 -- what bytes are as a command
 pub record ByShape (c : List ℕ) : Type 0 where
-  pub command : (a : Apdu) → (parsed c ≡ Command a) ↔ Shape c a
+  pub command : (a : Apdu) → (parsed c ≡ Ok a) ↔ Shape c a
   -- "otherwise 6700"
-  pub otherwise : (parsed c ≡ WrongLength) ↔ ((a : Apdu) → Shape c a → ⊥)
+  pub otherwise : (parsed c ≡ Err WrongLength) ↔ ((a : Apdu) → Shape c a → ⊥)
 
 -- every byte string is so
 pub by_shape : (c : List ℕ) → ByShape c
@@ -149,7 +167,7 @@ pub data_shaped : (c : List ℕ) (a : Apdu) (body le : List ℕ) → length body
 data_shaped c a body le l e = rw e (part-between (a.cla ∷ a.ins ∷ a.p1 ∷ a.p2 ∷ a.lc ∷ []) body le 5 a.lc refl l)
 
 -- a command's header is its first bytes
-pub header_is : (c : List ℕ) (a : Apdu) → parsed c ≡ Command a → a ≡ header c a.lc
+pub header_is : (c : List ℕ) (a : Apdu) → parsed c ≡ Ok a → a ≡ header c a.lc
 header_is c a e = leads (shape c a e)
   where
     leads : Shape c a → a ≡ header c a.lc
@@ -158,7 +176,7 @@ header_is c a e = leads (shape c a e)
     leads (full body le h l m q) = rw q
 
 -- and its data lie within it
-pub data_within : (c : List ℕ) (a : Apdu) → parsed c ≡ Command a → 0 < a.lc → 5 + a.lc ≤ length c
+pub data_within : (c : List ℕ) (a : Apdu) → parsed c ≡ Ok a → 0 < a.lc → 5 + a.lc ≤ length c
 data_within c a e h = within (shape c a e)
   where
     within : Shape c a → 5 + a.lc ≤ length c

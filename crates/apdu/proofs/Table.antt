@@ -3,6 +3,7 @@
 use mathlib.Core.Bool.{Bool, true, false, ◌&&◌, ◌||◌}
 use mathlib.Core.Logic.{◌↔◌, ◌⊎◌, inl, inr}
 use mathlib.Core.Path.{◌≡◌, refl}
+use Rattle.std.specs.Prelude.{Result, Ok, Err}
 use Prim.Native.Nat.{ℕ, ◌≤◌}
 use native.Mathlib.Omega.{arith}
 use borrow.Author.Tests.{leb-true, le-leb, eqb-true, eqb-false, eq-eqb, ne_eqb}
@@ -14,7 +15,9 @@ use Rattle.apdu.specs.declared.instructions.Plain.TheVariants.{Select, Initializ
 use Rattle.apdu.specs.declared.instructions.Signed.{Signed}
 use Rattle.apdu.specs.declared.instructions.Signed.TheVariants.{PutKey, PinChange, StoreData, InitializeTransaction, CompleteTransaction, PutData}
 use Rattle.apdu.specs.declared.instructions.Instruction.{Instruction}
-use Rattle.apdu.specs.declared.instructions.Instruction.TheVariants.{IsPlain, IsSigned, UnknownClass, UnknownInstruction}
+use Rattle.apdu.specs.declared.instructions.Instruction.TheVariants.{IsPlain, IsSigned}
+use Rattle.apdu.specs.declared.refusals.Refusal.{Refusal}
+use Rattle.apdu.specs.declared.refusals.Refusal.TheVariants.{UnknownInstruction, UnknownClass}
 use Rattle.apdu.specs.Instructions.{of00, of80, of84, of94, instruction}
 use Rattle.apdu.specs.Parameters.{are, is_set, is_tag, plain_parameters, signed_parameters, has_record}
 use Rattle.apdu.specs.Lengths.{plain_length, signed_length}
@@ -47,44 +50,47 @@ pub data Class (cla : ℕ) : Type 0 where
   class94 : cla ≡ 0x94 → Class cla
 
 -- the bytes of each command; "Unknown CLA", and "unknown INS, or an INS not of that CLA": a known CLA and no command's two bytes
-abbrev pub Code : Instruction → ℕ → ℕ → Type 0
-Code (IsPlain p) cla ins = PlainCode p cla ins
-Code (IsSigned g) cla ins = SignedCode g cla ins
-Code UnknownClass cla ins = Class cla → ⊥
-Code UnknownInstruction cla ins = Class cla × ((p : Plain) → PlainCode p cla ins → ⊥) × ((g : Signed) → SignedCode g cla ins → ⊥)
+abbrev pub Code : Result Instruction Refusal → ℕ → ℕ → Type 0
+Code (Ok (IsPlain p)) cla ins = PlainCode p cla ins
+Code (Ok (IsSigned g)) cla ins = SignedCode g cla ins
+Code (Err UnknownClass) cla ins = Class cla → ⊥
+Code (Err UnknownInstruction) cla ins = Class cla × ((p : Plain) → PlainCode p cla ins → ⊥) × ((g : Signed) → SignedCode g cla ins → ⊥)
+Code (Err _) cla ins = ⊥
 
 -- two bytes are those of the instruction that they name
-coded : (i : Instruction) (cla ins : ℕ) → Code i cla ins → instruction cla ins ≡ i
+coded : (i : Result Instruction Refusal) (cla ins : ℕ) → Code i cla ins → instruction cla ins ≡ i
 unfolding instruction of00 of80 of84 of94
-coded (IsPlain Select) cla ins c = rw (c.0, c.1)
-coded (IsPlain InitializeUpdate) cla ins c = rw (c.0, c.1)
-coded (IsPlain ExternalAuthenticate) cla ins c = rw (c.0, c.1)
-coded (IsPlain VerifyPin) cla ins c = rw (c.0, c.1)
-coded (IsPlain GetData) cla ins c = rw (c.0, c.1)
-coded (IsPlain ReadRecord) cla ins c = rw (c.0, c.1)
-coded (IsSigned PutKey) cla ins c = rw (c.0, c.1)
-coded (IsSigned PinChange) cla ins c = rw (c.0, c.1)
-coded (IsSigned StoreData) cla ins c = rw (c.0, c.1)
-coded (IsSigned InitializeTransaction) cla ins c = rw (c.0, c.1)
-coded (IsSigned CompleteTransaction) cla ins c = rw (c.0, c.1)
-coded (IsSigned PutData) cla ins c = rw (c.0, c.1)
-coded UnknownClass cla ins n =
+coded (Ok (IsPlain Select)) cla ins c = rw (c.0, c.1)
+coded (Ok (IsPlain InitializeUpdate)) cla ins c = rw (c.0, c.1)
+coded (Ok (IsPlain ExternalAuthenticate)) cla ins c = rw (c.0, c.1)
+coded (Ok (IsPlain VerifyPin)) cla ins c = rw (c.0, c.1)
+coded (Ok (IsPlain GetData)) cla ins c = rw (c.0, c.1)
+coded (Ok (IsPlain ReadRecord)) cla ins c = rw (c.0, c.1)
+coded (Ok (IsSigned PutKey)) cla ins c = rw (c.0, c.1)
+coded (Ok (IsSigned PinChange)) cla ins c = rw (c.0, c.1)
+coded (Ok (IsSigned StoreData)) cla ins c = rw (c.0, c.1)
+coded (Ok (IsSigned InitializeTransaction)) cla ins c = rw (c.0, c.1)
+coded (Ok (IsSigned CompleteTransaction)) cla ins c = rw (c.0, c.1)
+coded (Ok (IsSigned PutData)) cla ins c = rw (c.0, c.1)
+coded (Err UnknownClass) cla ins n =
     rw (ne_eqb cla 0x00 (λ e. n (class00 e)), ne_eqb cla 0x80 (λ e. n (class80 e)), ne_eqb cla 0x84 (λ e. n (class84 e)), ne_eqb cla 0x94 (λ e. n (class94 e)))
-coded UnknownInstruction cla ins (class00 e, p, g) =
+coded (Err UnknownInstruction) cla ins (class00 e, p, g) =
     rw (e, ne_eqb ins 0xA4 (λ f. p Select (e, f)), ne_eqb ins 0xB2 (λ f. p ReadRecord (e, f)))
-coded UnknownInstruction cla ins (class80 e, p, g) =
+coded (Err UnknownInstruction) cla ins (class80 e, p, g) =
     rw (e, ne_eqb ins 0x50 (λ f. p InitializeUpdate (e, f)), ne_eqb ins 0xCA (λ f. p GetData (e, f)))
-coded UnknownInstruction cla ins (class84 e, p, g) =
+coded (Err UnknownInstruction) cla ins (class84 e, p, g) =
     rw (e, ne_eqb ins 0x82 (λ f. p ExternalAuthenticate (e, f)), ne_eqb ins 0xD8 (λ f. g PutKey (e, f)), ne_eqb ins 0x24 (λ f. g PinChange (e, f)), ne_eqb ins 0xE2 (λ f. g StoreData (e, f)), ne_eqb ins 0xDA (λ f. g PutData (e, f)))
-coded UnknownInstruction cla ins (class94 e, p, g) =
+coded (Err UnknownInstruction) cla ins (class94 e, p, g) =
     rw (e, ne_eqb ins 0x20 (λ f. p VerifyPin (e, f)), ne_eqb ins 0x44 (λ f. g InitializeTransaction (e, f)), ne_eqb ins 0x46 (λ f. g CompleteTransaction (e, f)))
+coded (Err _) cla ins n = absurd n
 
 -- what the tests of a row tell: a command's two bytes, a known class, no known class
-abbrev Told : ℕ → ℕ → Instruction → Type 0
-Told cla ins (IsPlain p) = PlainCode p cla ins
-Told cla ins (IsSigned g) = SignedCode g cla ins
-Told cla ins UnknownClass = Class cla → ⊥
-Told cla ins UnknownInstruction = Class cla
+abbrev Told : ℕ → ℕ → Result Instruction Refusal → Type 0
+Told cla ins (Ok (IsPlain p)) = PlainCode p cla ins
+Told cla ins (Ok (IsSigned g)) = SignedCode g cla ins
+Told cla ins (Err UnknownClass) = Class cla → ⊥
+Told cla ins (Err UnknownInstruction) = Class cla
+Told cla ins (Err _) = ⊥
 
 no_class : (cla : ℕ) → eqb cla 0x00 ≡ false → eqb cla 0x80 ≡ false → eqb cla 0x84 ≡ false → eqb cla 0x94 ≡ false → Class cla → ⊥
 no_class cla a b c d (class00 e) = eqb-false cla 0x00 a e
@@ -117,23 +123,30 @@ told cla ins =
     (λ n. pick_holds (Told cla ins) (eqb ins 0x46) _ _ (λ e. (eqb-true _ _ c, eqb-true _ _ e)) (λ e. class94 (eqb-true _ _ c)))))
     (λ n3. no_class cla n0 n1 n2 n3))))
 
-plain_known : (p : Plain) (i : Instruction) → i ≡ IsPlain p → i ≡ UnknownInstruction → ⊥
+plain_known : (p : Plain) (i : Result Instruction Refusal) → i ≡ Ok (IsPlain p) → i ≡ Err UnknownInstruction → ⊥
 plain_known p i e f = let z : ◌≡◌ {A = ℕ} 0 1 = cc in omega arith
 
-signed_known : (g : Signed) (i : Instruction) → i ≡ IsSigned g → i ≡ UnknownInstruction → ⊥
+signed_known : (g : Signed) (i : Result Instruction Refusal) → i ≡ Ok (IsSigned g) → i ≡ Err UnknownInstruction → ⊥
 signed_known g i e f = let z : ◌≡◌ {A = ℕ} 0 1 = cc in omega arith
 
-code : (i : Instruction) (cla ins : ℕ) → instruction cla ins ≡ i → Code i cla ins
-code (IsPlain p) cla ins e = rw e at (told cla ins)
-code (IsSigned g) cla ins e = rw e at (told cla ins)
-code UnknownClass cla ins e = rw e at (told cla ins)
-code UnknownInstruction cla ins e =
+code : (i : Result Instruction Refusal) (cla ins : ℕ) → instruction cla ins ≡ i → Code i cla ins
+code (Ok (IsPlain p)) cla ins e = rw e at (told cla ins)
+code (Ok (IsSigned g)) cla ins e = rw e at (told cla ins)
+code (Err UnknownClass) cla ins e = rw e at (told cla ins)
+code (Err UnknownInstruction) cla ins e =
     let k : Class cla = rw e at (told cla ins) in
-    (k, λ p c. plain_known p (instruction cla ins) (coded (IsPlain p) cla ins c) e, λ g c. signed_known g (instruction cla ins) (coded (IsSigned g) cla ins c) e)
+    (k, λ p c. plain_known p (instruction cla ins) (coded (Ok (IsPlain p)) cla ins c) e, λ g c. signed_known g (instruction cla ins) (coded (Ok (IsSigned g)) cla ins c) e)
+code (Err _) cla ins e = rw e at (told cla ins)
 
 -- step 2: each command by its two bytes and by no others; every other pair is unknown, by its CLA or by its INS
-pub instructions : (i : Instruction) (cla ins : ℕ) → (instruction cla ins ≡ i) ↔ Code i cla ins
+pub instructions : (i : Result Instruction Refusal) (cla ins : ℕ) → (instruction cla ins ≡ i) ↔ Code i cla ins
 instructions i cla ins = (code i cla ins, coded i cla ins)
+
+-- a refusal of step 2 is one of these two
+pub unknown : (P : Refusal → Type 0) → P UnknownClass → P UnknownInstruction → (cla ins : ℕ) (r : Refusal) → instruction cla ins ≡ Err r → P r
+unknown P c i cla ins UnknownClass e = c
+unknown P c i cla ins UnknownInstruction e = i
+unknown P c i cla ins _ e = absurd (rw e at (told cla ins))
 
 -- ---- P1 and P2
 

@@ -1,3 +1,4 @@
+pub mod Refusals
 pub mod Parsing
 pub mod Instructions
 pub mod Parameters

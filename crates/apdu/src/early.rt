@@ -1,68 +1,40 @@
-// Steps 3 to 5: the first rule that refuses, or 0x9000.
-ghost use Rattle.std.specs.Prelude.{◌||◌, ◌≡◌};
-ghost use Rattle.apdu.specs.Early.{is_select, early_status, plain_status, signed_status};
+// Steps 3 to 5: the first rule that refuses, if one does.
+ghost use Rattle.std.specs.Prelude.{◌≡◌};
+ghost use Rattle.apdu.specs.Refusals.{status_of};
+ghost use Rattle.apdu.specs.Early.{early_status, plain_status, signed_status};
 
 use crate::instructions::{Plain, Signed};
-use crate::lengths::{plain_length, signed_length};
-use crate::parameters::{has_record, plain_parameters, signed_parameters};
 use crate::parsing::Apdu;
+use crate::refusals::{Refusal, ensure};
 
-fn is_select(p: Plain) -> bool
-    ensures { result ≡ is_select p }
+// The row of rules.
+#[tactic(auto, unfolding(crate::specs::Early::early_status))]
+fn early_status(selected: bool, parameters: bool, logged: bool, length: bool) -> Result<(), Refusal>
+    ensures { status_of result ≡ early_status selected parameters logged length }
 {
-    match p {
-        Plain::Select => true,
-        Plain::InitializeUpdate => false,
-        Plain::ExternalAuthenticate => false,
-        Plain::VerifyPin => false,
-        Plain::GetData => false,
-        Plain::ReadRecord => false,
-    }
+    ensure(selected, Refusal::ConditionsNotSatisfied)?;
+    ensure(parameters, Refusal::WrongParameters)?;
+    ensure(logged, Refusal::UnknownRecord)?;
+    ensure(length, Refusal::WrongLength)
 }
 
-// SELECT needs no selection.
-fn may_run(p: Plain, selected: bool) -> bool
-    ensures { result ≡ (is_select p || selected) }
+// A command without a C-MAC: selection, which SELECT doesn't need, parameters, record, length.
+#[tactic(auto, unfolding(crate::specs::Early::plain_status, crate::specs::Early::is_select))]
+pub fn plain_status(p: Plain, selected: bool, a: Apdu, logsize: u8) -> Result<(), Refusal>
+    ensures { status_of result ≡ plain_status p selected a logsize }
 {
-    if is_select(p) {
-        return true;
-    }
-    selected
-}
-
-fn early_status(selected: bool, parameters: bool, logged: bool, length: bool) -> u16
-    ensures { result ≡ early_status selected parameters logged length }
-{
-    if !selected {
-        return 0x6985;
-    }
-    if !parameters {
-        return 0x6A86;
-    }
-    if !logged {
-        return 0x6A83;
-    }
-    if !length {
-        return 0x6700;
-    }
-    0x9000
-}
-
-// A command without a C-MAC: selection, parameters, record, length.
-pub fn plain_status(p: Plain, selected: bool, a: Apdu, logsize: u8) -> u16
-    ensures { result ≡ plain_status p selected a logsize }
-{
-    let parameters = plain_parameters(p, a.p1, a.p2);
-    let logged = has_record(p, a.p1, logsize);
-    let length = plain_length(p, a.lc);
-    early_status(may_run(p, selected), parameters, logged, length)
+    early_status(
+        p == Plain::Select || selected,
+        p.parameters(a.p1, a.p2),
+        p.has_record(a.p1, logsize),
+        p.length(a.lc),
+    )
 }
 
 // A command with a C-MAC.
-pub fn signed_status(g: Signed, selected: bool, a: Apdu) -> u16
-    ensures { result ≡ signed_status g selected a }
+#[tactic(auto, unfolding(crate::specs::Early::signed_status))]
+pub fn signed_status(g: Signed, selected: bool, a: Apdu) -> Result<(), Refusal>
+    ensures { status_of result ≡ signed_status g selected a }
 {
-    let parameters = signed_parameters(g, a.p1, a.p2);
-    let length = signed_length(g, a.lc);
-    early_status(selected, parameters, true, length)
+    early_status(selected, g.parameters(a.p1, a.p2), true, g.length(a.lc))
 }

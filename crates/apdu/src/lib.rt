@@ -6,8 +6,10 @@ mod instructions;
 mod lengths;
 mod parameters;
 mod parsing;
+mod refusals;
 
 pub use early::{plain_status, signed_status};
 pub use instructions::{Instruction, Plain, Signed, classify};
 pub use lengths::MAC_SIZE;
-pub use parsing::{Apdu, Parsed, parse};
+pub use parsing::{Apdu, parse};
+pub use refusals::{Refusal, ensure};

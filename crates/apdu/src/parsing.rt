@@ -2,8 +2,10 @@
 ghost use Rattle.std.specs.Prelude.{◌≡◌};
 ghost use Rattle.apdu.specs.Parsing.{parsed};
 
+use crate::refusals::Refusal;
+
 // The header of a command; its data are the `lc` bytes from byte 6 on.
-#[derive(Clone, Copy)]
+#[derive(Clone, Copy, Debug, PartialEq, Eq)]
 pub struct Apdu {
     pub cla: u8,
     pub ins: u8,
@@ -12,40 +14,27 @@ pub struct Apdu {
     pub lc: u8,
 }
 
-#[derive(Clone, Copy)]
-pub enum Parsed {
-    Command(Apdu),
-    WrongLength,
-}
-
 // What bytes are as a command.
-pub fn parse(command: &[u8]) -> Parsed
+#[tactic(auto, unfolding(crate::specs::Parsing::parsed))]
+pub fn parse(command: &[u8]) -> Result<Apdu, Refusal>
     ensures { result ≡ parsed command.now }
 {
-    let n = command.len();
-    if n < 4 {
-        return Parsed::WrongLength;
-    }
-    let mut a = Apdu {
-        cla: command[0],
-        ins: command[1],
-        p1: command[2],
-        p2: command[3],
-        lc: 0,
+    let &[cla, ins, p1, p2, ref rest @ ..] = command else {
+        return Err(Refusal::WrongLength);
     };
-    if n < 6 {
-        return Parsed::Command(a);
-    }
-    let lc = command[4];
-    a.lc = lc;
-    if lc == 0 {
-        return Parsed::WrongLength;
-    }
-    if n == 5 + lc as usize {
-        return Parsed::Command(a);
-    }
-    if n == 6 + lc as usize {
-        return Parsed::Command(a);
-    }
-    Parsed::WrongLength
+    let lc = match *rest {
+        [] | [_] => 0,
+        [lc, ref data @ ..]
+            if lc != 0 && (data.len() == usize::from(lc) || data.len() == usize::from(lc) + 1) => {
+            lc
+        }
+        _ => return Err(Refusal::WrongLength),
+    };
+    Ok(Apdu {
+        cla,
+        ins,
+        p1,
+        p2,
+        lc,
+    })
 }

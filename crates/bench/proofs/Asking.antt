@@ -7,7 +7,6 @@ use mathlib.Core.Path.{◌≡◌, refl, sym, ap, ◌∙◌}
 use native.Mathlib.Omega.{arith}
 use borrow.Author.Tests.{ne_eqb}
 use lib.ListN.{length, drop, replicate}
-use Rattle.octets.specs.Bytes.{same}
 use Rattle.octets.proofs.Equality.{differ_same}
 use Rattle.tdes.specs.declared.engine.Engine.{Engine}
 use Rattle.tdes.specs.declared.engine.Engine.TheVariants as engine
@@ -23,26 +22,26 @@ use Rattle.bench.specs.Arguments.{after, after_all, asked, files_run, runs}
 
 -- "--plain" and "--help" are the switches
 pub plain-is_switch : word_of plain_switch ≡ Plain
-unfolding word_of same
+unfolding word_of
 plain-is_switch = refl
 
 pub help_is_switch : word_of help_switch ≡ Help
-unfolding word_of same
+unfolding word_of
 help_is_switch = refl
 
 -- "-" alone is no file's name
 pub dash_alone : word_of (dash ∷ []) ≡ Unknown
-unfolding word_of same dashed
+unfolding word_of dashed
 dash_alone = refl
 
 -- an empty argument is a name, which no file has
 pub empty-is_name : word_of [] ≡ Name
-unfolding word_of same dashed
+unfolding word_of dashed
 empty-is_name = refl
 
 -- what no dash leads is a name
 pub no_dash-is_name : (x : ℕ) (s : List ℕ) → (x ≡ dash → ⊥) → word_of (x ∷ s) ≡ Name
-unfolding word_of same dashed
+unfolding word_of dashed
 no_dash-is_name x s h = rw (ne_eqb x dash h)
 
 -- one that a dash leads and that is no switch is unknown

@@ -3,7 +3,6 @@
 ghost use Rattle.std.specs.Prelude.{◌≡◌};
 ghost use Rattle.bench.specs.Arguments.{word_of, after_switches, after_files, after, nothing};
 
-use octets::{byte_at, same};
 use std::env::{Env, FillError};
 use tdes::Engine;
 
@@ -23,7 +22,8 @@ pub struct Order {
     pub first: usize,
 }
 
-// What is asked for: standard input, as no file is named; the files; the usage; or nothing, as an argument is refused.
+// What is asked for: standard input, as no file is named; the files; the usage; or nothing, as an argument is refused. A refusal is no
+// `Err`: no plainer, as the usage is final too, and is no error.
 #[derive(Clone, Copy)]
 pub enum Asked {
     Input(Engine),
@@ -32,65 +32,66 @@ pub enum Asked {
     Refused(usize),
 }
 
-// What an argument's bytes are.
-fn word_of(s: &[u8]) -> Word
-    ensures { result ≡ word_of s.now }
-{
-    if same(s, b"--plain") {
-        return Word::Plain;
+impl Word {
+    // What an argument's bytes are.
+    #[tactic(auto, unfolding(crate::specs::Arguments::word_of, crate::specs::Arguments::dashed))]
+    fn of(s: &[u8]) -> Word
+        ensures { result ≡ word_of s.now }
+    {
+        match s {
+            b"--plain" => Word::Plain,
+            b"--help" => Word::Help,
+            [b'-', ..] => Word::Unknown, // a dash leads it
+            _ => Word::Name,
+        }
     }
-    if same(s, b"--help") {
-        return Word::Help;
-    }
-    if byte_at(s, 0) == 0x2D {
-        return Word::Unknown; // a dash leads it
-    }
-    Word::Name
-}
 
-// What is asked for before the first argument.
-fn nothing() -> Asked
-    ensures { result ≡ nothing }
-{
-    Asked::Input(Engine::Quick)
-}
-
-// One argument more behind switches alone.
-fn after_switches(engine: Engine, word: Word, at: usize) -> Asked
-    ensures { result ≡ after_switches engine word at }
-{
-    match word {
-        Word::Plain => Asked::Input(Engine::Plain),
-        Word::Help => Asked::Usage, // and nothing is run
-        Word::Unknown => Asked::Refused(at),
-        Word::Name => Asked::Files(Order {
-            engine: engine,
-            first: at,
-        }),
+    // What is asked for with it behind switches alone, where its number is `at`.
+    #[tactic(auto, unfolding(crate::specs::Arguments::after_switches))]
+    fn after_switches(self, engine: Engine, at: usize) -> Asked
+        ensures { result ≡ after_switches engine self at }
+    {
+        match self {
+            Word::Plain => Asked::Input(Engine::Plain),
+            Word::Help => Asked::Usage, // and nothing is run
+            Word::Unknown => Asked::Refused(at),
+            Word::Name => Asked::Files(Order { engine, first: at }),
+        }
     }
-}
 
-// One argument more behind a file's name.
-fn after_files(order: Order, word: Word, at: usize) -> Asked
-    ensures { result ≡ after_files order word at }
-{
-    match word {
-        Word::Plain => Asked::Refused(at), // a switch holds for all files
-        Word::Help => Asked::Usage,
-        Word::Unknown => Asked::Refused(at), // and no file before it is run
-        Word::Name => Asked::Files(order),
+    // What is asked for with it behind a file's name.
+    #[tactic(auto, unfolding(crate::specs::Arguments::after_files))]
+    fn after_files(self, order: Order, at: usize) -> Asked
+        ensures { result ≡ after_files order self at }
+    {
+        match self {
+            Word::Plain => Asked::Refused(at), // a switch holds for all files
+            Word::Help => Asked::Usage,
+            Word::Unknown => Asked::Refused(at), // and no file before it is run
+            Word::Name => Asked::Files(order),
+        }
     }
 }
 
-// What is asked for with one argument more, the one of this number.
-fn after(asked: Asked, word: Word, at: usize) -> Asked
-    ensures { result ≡ after asked word at }
-{
-    match asked {
-        Asked::Input(engine) => after_switches(engine, word, at),
-        Asked::Files(order) => after_files(order, word, at),
-        Asked::Usage => Asked::Usage,
-        Asked::Refused(first) => Asked::Refused(first),
+impl Asked {
+    // What is asked for before the first argument.
+    #[tactic(auto, unfolding(crate::specs::Arguments::nothing))]
+    fn nothing() -> Asked
+        ensures { result ≡ nothing }
+    {
+        Asked::Input(Engine::Quick)
+    }
+
+    // What is asked for with one argument more, the one of this number.
+    #[tactic(auto, unfolding(crate::specs::Arguments::after))]
+    fn after(self, word: Word, at: usize) -> Asked
+        ensures { result ≡ after self word at }
+    {
+        match self {
+            Asked::Input(engine) => word.after_switches(engine, at),
+            Asked::Files(order) => word.after_files(order, at),
+            Asked::Usage | Asked::Refused(_) => self,
+        }
     }
 }
 
@@ -101,31 +102,26 @@ fn is_given(rt: &impl Env, i: usize) -> bool {
 
 // How many arguments there are, the program's name among them.
 pub fn count(rt: &impl Env) -> usize {
-    for i in 0..usize::MAX {
-        if !is_given(rt, i) {
-            return i;
-        }
-    }
-    usize::MAX
+    (0..usize::MAX)
+        .find(|i| !is_given(rt, *i))
+        .unwrap_or(usize::MAX)
 }
 
 // The argument of a number. One that can't be read is refused as an unknown one is.
 fn read_word(rt: &impl Env, i: usize) -> Word {
     let mut bytes = [0u8; 4096];
     match rt.arg(i, &mut bytes) {
-        Ok(length) => word_of(&bytes[..length]),
+        Ok(length) => Word::of(&bytes[..length]),
         Err(_) => Word::Unknown,
     }
 }
 
 // What the program's arguments ask for.
 pub fn read(rt: &impl Env) -> Asked {
-    let n = count(rt);
-    let mut asked = nothing();
-    for i in 1..n {
-        asked = after(asked, read_word(rt, i), i);
-    }
-    asked
+    (1..count(rt)).fold(
+        Asked::nothing(),
+        |asked, i| asked.after(read_word(rt, i), i),
+    )
 }
 
 // Writes bytes. Where that fails, they are passed over.

@@ -5,9 +5,10 @@
 
 mod arguments;
 mod failure;
+mod input;
 mod stream;
 
-use arguments::{Asked, Order};
+use arguments::Asked;
 use failure::fail;
 use std::env::{Env, FillError};
 use std::io::ErrorKind;
@@ -23,35 +24,42 @@ fn open<R: Files>(rt: &R, path: &[u8]) -> io::Result<R::File> {
     }
 }
 
-// The file of a name.
-fn run_path(rt: &(impl Files + Print), errors: &impl Print, engine: Engine, path: &[u8]) {
-    match open(rt, path) {
-        Ok(mut file) => stream::run(rt, errors, engine, &mut file, path),
-        Err(error) => fail(errors, path, error),
-    }
+// Where arguments and files come from and lines go, where errors are named, and the engine that ciphers.
+#[derive(Drop)]
+struct Program<'a, R, E> {
+    rt: &'a R,
+    errors: &'a E,
+    engine: Engine,
 }
 
-// The file that an argument names.
-fn run_named(rt: &(impl Files + Env + Print), errors: &impl Print, engine: Engine, i: usize) {
-    let mut path = [0u8; 4096];
-    match rt.arg(i, &mut path) {
-        Ok(length) => run_path(rt, errors, engine, &path[..length]),
-        Err(FillError::TooLong) => {
-            fail(errors, b"argument", io::Error::from_raw_os_error(36)) // ENAMETOOLONG
-        }
-        Err(FillError::NotPresent) => {
-            fail(errors, b"argument", io::Error::from_raw_os_error(22)) // EINVAL
+impl<R: Files + Env + Print, E: Print> Program<'_, R, E> {
+    // The file of a name.
+    fn run_path(&self, path: &[u8]) {
+        match open(self.rt, path) {
+            Ok(mut file) => stream::run(self.rt, self.errors, self.engine, &mut file, path),
+            Err(error) => fail(self.errors, path, error),
         }
     }
-}
 
-// The files from the first one on.
-fn run_files(rt: &(impl Files + Env + Print), errors: &impl Print, order: Order) {
-    let engine = order.engine;
-    let first = order.first;
-    let n = arguments::count(rt);
-    for i in first..n {
-        run_named(rt, errors, engine, i);
+    // The file that an argument names.
+    fn run_named(&self, i: usize) {
+        let mut path = [0u8; 4096];
+        match self.rt.arg(i, &mut path) {
+            Ok(length) => self.run_path(&path[..length]),
+            Err(FillError::TooLong) => {
+                fail(self.errors, b"argument", io::Error::from_raw_os_error(36)) // ENAMETOOLONG
+            }
+            Err(FillError::NotPresent) => {
+                fail(self.errors, b"argument", io::Error::from_raw_os_error(22)) // EINVAL
+            }
+        }
+    }
+
+    // The files from the first one on.
+    fn run_files(&self, first: usize) {
+        for i in first..arguments::count(self.rt) {
+            self.run_named(i);
+        }
     }
 }
 
@@ -61,7 +69,12 @@ fn main(rt: HostRuntime) {
         Asked::Input(engine) => {
             stream::run(&rt, &errors, engine, &mut rt.reader(), b"standard input")
         }
-        Asked::Files(order) => run_files(&rt, &errors, order),
+        Asked::Files(order) => Program {
+            rt: &rt,
+            errors: &errors,
+            engine: order.engine,
+        }
+        .run_files(order.first),
         Asked::Usage => arguments::help(&rt),
         Asked::Refused(at) => arguments::refuse(&errors, at),
     }

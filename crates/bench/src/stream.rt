@@ -1,269 +1,146 @@
 // A bench file as it comes from a reader: in pieces of any size, each run as far as its frames are whole, before the next is awaited.
-ghost use Rattle.std.specs.Prelude.{◌≡◌, ◌≤◌, ◌<◌, length};
-ghost use Rattle.bench_file.specs.Stream.{longest_line};
+ghost use Rattle.std.specs.Prelude.{true, false, ◌≡◌, ◌≤◌, ◌<◌, MatchResult, length};
+ghost use Rattle.framing.specs.declared.next.Next.{Next};
 ghost use Rattle.bench.specs.Going.{turns_again, file_goes_on};
 ghost use Rattle.bench.specs.InHand.{HandTurned, HandDrained, PieceRun};
 
 use crate::failure::fail;
+use crate::input::{AREA_SIZE, Input};
+use bench_file::Runner;
 use framing::Next;
-use session::{Session, unselected};
 use std::io::Read;
 use tdes::Engine;
 
-// How many of the bytes in hand are used, whether more can be used at once, whether the file goes on, whether all lines were written, and
-// the session.
+// The file has ended, or what it takes to go on has failed, which is said already.
+#[derive(Clone, Copy)]
+struct Ended;
+
+// How many of the bytes in hand are used, and how it goes on.
 #[derive(Clone, Copy)]
 struct Hand {
     used: usize,
-    again: bool,
-    on: bool,
-    done: bool,
-    session: Session,
+    next: Next,
 }
 
-// How many bytes are in hand, whether the file goes on, whether all lines were written, and the session.
-#[derive(Clone, Copy)]
-struct Kept {
-    have: usize,
-    on: bool,
-    done: bool,
-    session: Session,
-}
-
-// Whether more of the bytes in hand can be used at once: the lines are written, and had no room before.
-fn again(next: Next, done: bool) -> bool
-    ensures { result ≡ turns_again next done }
+// Whether more of the bytes in hand can be used at once: a line had no room before.
+fn again(next: Next) -> bool
+    ensures { result ≡ turns_again next true }
 {
-    if !done {
-        return false;
-    }
-    match next {
-        Next::Full => true, // a line had no room
-        Next::More => false,
-        Next::Over => false,
-    }
+    next == Next::Full
 }
 
-// Whether the file goes on: the lines are written, and X is not among them.
-fn goes_on(next: Next, done: bool) -> bool
-    ensures { result ≡ file_goes_on next done }
+// Whether the file goes on: all was written, and X is not among the lines.
+#[tactic(auto, unfolding(crate::specs::Going::file_goes_on, framing::specs::Stream::is_over))]
+fn goes_on(went: Result<Next, Ended>) -> bool
+    ensures { MatchResult went (λ next. result ≡ file_goes_on next true) (λ _. (next : Next) → result ≡ file_goes_on next false) }
 {
-    if !done {
-        return false;
-    }
-    match next {
-        Next::Full => true,
-        Next::More => true,
-        Next::Over => false, // X is the last line
-    }
+    matches!(went, Ok(Next::Full | Next::More))
 }
 
-// Writes to standard output, and says where that fails.
-fn write(out: &impl Print, errors: &impl Print, bytes: &[u8]) -> bool {
-    match out.write_all(bytes) {
-        Ok(()) => true,
-        Err(error) => {
-            fail(errors, b"standard output", error);
-            false
+// A bench file as it runs: where its lines are written and what fails is named, what runs its frames, and the area for lines.
+#[derive(Drop)]
+struct Stream<'a, 'm, O, E> {
+    out: &'a O,
+    errors: &'a E,
+    runner: Runner<'m>,
+    output: [u8; AREA_SIZE],
+}
+
+impl<O: Print, E: Print> Stream<'_, '_, O, E> {
+    // Writes lines to standard output, and says where that fails.
+    fn write(&self, lines: &[u8]) -> Result<(), Ended> {
+        match self.out.write_all(lines) {
+            Ok(()) => Ok(()),
+            Err(error) => {
+                fail(self.errors, b"standard output", error);
+                Err(Ended)
+            }
         }
     }
-}
 
-// One turn, whose lines are written together.
-fn turn(
-    out: &impl Print,
-    errors: &impl Print,
-    engine: Engine,
-    memory: &mut [u8],
-    session: Session,
-    input: &[u8],
-    used: usize,
-    output: &mut [u8],
-) -> Hand
-    requires { used ≤ length input.now }
-    ensures { HandTurned memory.old session input.now used output.old
-        result memory.new output.new }
-{
-    let turned = bench_file::turn(engine, memory, session, &input[used..], output);
-    let n = turned.written;
-    let next = turned.next;
-    let done = write(out, errors, &output[0..n]);
-    let more = turned.used;
-    let after = turned.session;
-    Hand {
-        used: used + more,
-        again: again(next, done),
-        on: goes_on(next, done),
-        done: done,
-        session: after,
+    // One turn, whose lines are written together.
+    fn turn(&mut self, input: &[u8], used: usize) -> Result<Hand, Ended>
+        requires { used ≤ length input.now }
+        ensures { HandTurned self.old.runner input.now used self.old.output result self.new.runner self.new.output }
+    {
+        let turned = self.runner.turn(&input[used..], &mut self.output);
+        self.write(&self.output[..turned.written])?;
+        Ok(Hand {
+            used: used + turned.used,
+            next: turned.next,
+        })
     }
-}
 
-// All whole frames in hand.
-fn run_in_hand(
-    out: &impl Print,
-    errors: &impl Print,
-    engine: Engine,
-    memory: &mut [u8],
-    session: Session,
-    input: &[u8],
-    output: &mut [u8],
-) -> Hand
-    requires { (0 < length input.now) × (longest_line ≤ length output.old) }
-    ensures { HandDrained memory.old session input.now output.old result memory.new }
-{
-    let mut hand = Hand {
-        used: 0,
-        again: true,
-        on: true,
-        done: true,
-        session: session,
-    };
-    while hand.again {
-        hand = turn(
-            out,
-            errors,
-            engine,
-            memory,
-            hand.session,
-            input,
-            hand.used,
-            output,
-        );
-    }
-    hand
-}
-
-// The end of the file.
-fn finish(
-    out: &impl Print,
-    errors: &impl Print,
-    rest: &[u8],
-    session: Session,
-    output: &mut [u8],
-) -> Kept
-    requires { longest_line ≤ length output.old }
-    ensures { result.have ≡ 0 }
-{
-    let n = bench_file::last_line(rest, output);
-    let done = write(out, errors, &output[0..n]);
-    Kept {
-        have: 0,
-        on: false,
-        done: done,
-        session: session,
-    }
-}
-
-// Runs the first bytes of the input area, and keeps what is left of them.
-fn run_piece(
-    out: &impl Print,
-    errors: &impl Print,
-    engine: Engine,
-    memory: &mut [u8],
-    session: Session,
-    input: &mut [u8],
-    have: usize,
-    output: &mut [u8],
-) -> Kept
-    requires { (0 < have) × (have ≤ length input.old) × (longest_line ≤ length output.old) }
-    ensures { PieceRun memory.old session input.old have output.old
-        result memory.new input.new }
-{
-    let hand = run_in_hand(
-        out,
-        errors,
-        engine,
-        memory,
-        session,
-        &input[0..have],
-        output,
-    );
-    let left = framing::keep(input, hand.used, have);
-    let after = hand.session;
-    Kept {
-        have: left,
-        on: hand.on,
-        done: hand.done,
-        session: after,
-    }
-}
-
-// Reads once, behind the bytes in hand.
-fn read_piece(
-    out: &impl Print,
-    errors: &impl Print,
-    engine: Engine,
-    file: &mut impl Read,
-    name: &[u8],
-    memory: &mut [u8],
-    input: &mut [u8],
-    output: &mut [u8],
-    kept: Kept,
-) -> Kept
-    requires { (kept.have ≤ length input.old) × (longest_line ≤ length output.old) }
-    ensures { result.have ≤ length input.new }
-{
-    let have = kept.have;
-    let session = kept.session;
-    let n = match file.read(&mut input[have..]) {
-        Ok(n) => n,
-        Err(error) => {
-            fail(errors, name, error);
-            return Kept {
-                have: 0,
-                on: false,
-                done: false,
-                session: session,
-            };
+    // All whole frames in hand.
+    fn run_in_hand(&mut self, input: &[u8]) -> Result<Hand, Ended>
+        requires { 0 < length input.now }
+        ensures { HandDrained self.old.runner input.now self.old.output result self.new.runner }
+    {
+        let mut hand = self.turn(input, 0)?;
+        while again(hand.next) {
+            hand = self.turn(input, hand.used)?;
         }
-    };
-    if n == 0 {
-        return finish(out, errors, &input[0..have], session, output);
+        Ok(hand)
     }
-    run_piece(
-        out,
-        errors,
-        engine,
-        memory,
-        session,
-        input,
-        have + n,
-        output,
-    )
+
+    // Runs the bytes in hand, and keeps what is left of them.
+    fn run_piece(&mut self, input: &mut Input) -> Result<Next, Ended>
+        requires { 0 < input.old.have }
+        ensures { PieceRun self.old.runner input.old self.old.output result self.new.runner input.new }
+    {
+        let hand = self.run_in_hand(input.bytes())?;
+        input.keep(hand.used);
+        Ok(hand.next)
+    }
+
+    // The end of the file.
+    fn finish(&mut self, rest: &[u8]) -> Result<(), Ended> {
+        let n = bench_file::last_line(rest, &mut self.output);
+        self.write(&self.output[..n])
+    }
+
+    // Reads once, behind the bytes in hand, and runs them.
+    fn read_piece(
+        &mut self,
+        file: &mut impl Read,
+        name: &[u8],
+        input: &mut Input,
+    ) -> Result<Next, Ended> {
+        let n = match input.read(file) {
+            Ok(n) => n,
+            Err(error) => {
+                fail(self.errors, name, error);
+                return Err(Ended);
+            }
+        };
+        if n == 0 {
+            self.finish(input.bytes())?;
+            return Err(Ended);
+        }
+        self.run_piece(input)
+    }
 }
 
 // One bench file, with memory and session of its own. A proved loop has to end: it counts its turns up to a number that no run reaches.
-pub fn run(
-    out: &impl Print,
-    errors: &impl Print,
+pub fn run<'a>(
+    out: &'a impl Print,
+    errors: &'a impl Print,
     engine: Engine,
     file: &mut impl Read,
     name: &[u8],
 ) {
     let mut memory = [0; 4096];
-    let mut input = [0u8; 65536];
-    let mut output = [0u8; 65536];
-    let mut kept = Kept {
-        have: 0,
-        on: true,
-        done: true,
-        session: unselected(),
+    let mut input = Input::new();
+    let runner = Runner::new(engine, &mut memory);
+    let mut stream = Stream {
+        out,
+        errors,
+        runner,
+        output: [0; AREA_SIZE],
     };
     for _ in 0..u64::MAX {
-        if !kept.on {
+        if !goes_on(stream.read_piece(file, name, &mut input)) {
             break;
         }
-        kept = read_piece(
-            out,
-            errors,
-            engine,
-            file,
-            name,
-            &mut memory,
-            &mut input,
-            &mut output,
-            kept,
-        );
     }
 }

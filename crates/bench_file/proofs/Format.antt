@@ -3,13 +3,16 @@ use Prim.Native.Nat.{ℕ, zero, suc}
 use mathlib.Core.Bool.{Bool, true, false, not, ◌&&◌, ◌||◌}
 use mathlib.Core.List.{List, [], ◌++◌, append_assoc}
 use mathlib.Core.Path.{◌≡◌, refl, sym, ap, ◌∙◌}
+use denote.Enum.Bare.{sameb}
 use lib.Dec.{eqb}
 use lib.ListN.{length, drop}
 use Rattle.octets.specs.Choice.{pick}
+use Rattle.framing.specs.contracts.front.Front.{the_type}
 use Rattle.framing.specs.declared.front.Front.{Front}
-use Rattle.framing.specs.Frames.{frame_size, is_malformed, front_of, whole, malformed}
+use Rattle.framing.specs.declared.front.Front.TheVariants.{Frame, Malformed}
+use Rattle.framing.specs.Frames.{frame_size, is_frame, is_malformed, front_of, whole, malformed}
 use Rattle.framing.specs.Formats.{taken, front_refused, last_line, lines_in, lines_from}
-use Rattle.framing.proofs.Headers.{front_malformed}
+use Rattle.framing.proofs.Headers.{front_whole, front_malformed, frame_test, malformed_test}
 use Rattle.purse_spec.specs.History.{Call}
 use Rattle.bench_file.specs.Kinds.{File, size_ok, first_call, frameless, leading, file_in, file}
 use Rattle.bench_file.specs.Lines.{Bench, ran, moved, line, malformed_line, call_lines, file_lines, bench_lines}
@@ -34,11 +37,15 @@ refused-is b s = by (malformed size_ok s) (whole size_ok s)
     by false true = refl
     by false false = refl
 
--- as the code tests it, of what it lends
+-- as the code tests both
+pub taken_by : (b : Bench) (rest : List ℕ) (f : Front) → f ≡ front_of size_ok rest → (t : Bool) → t ≡ sameb the_type f Frame
+    → t ≡ taken bench b rest
+taken_by b rest f e t g = g ∙ frame_test f ∙ ap is_frame e ∙ front_whole size_ok rest ∙ sym (taken_is b rest)
+
 pub refused_by : (b : Bench) (input rest : List ℕ) (used : ℕ) → rest ≡ drop used input → (f : Front) → f ≡ front_of size_ok rest
-    → (t : Bool) → t ≡ is_malformed f → t ≡ front_refused bench b (drop used input)
+    → (t : Bool) → t ≡ sameb the_type f Malformed → t ≡ front_refused bench b (drop used input)
 refused_by b input rest used l f e t g =
-    g ∙ ap is_malformed e ∙ front_malformed size_ok rest ∙ ap (malformed size_ok) l ∙ sym (refused-is b (drop used input))
+    g ∙ malformed_test f ∙ ap is_malformed e ∙ front_malformed size_ok rest ∙ ap (malformed size_ok) l ∙ sym (refused-is b (drop used input))
 
 by_first : (t : Bool) (c : Call) (f last : File) (b : Bench) (x y z : List ℕ) → x ++ y ≡ file_lines (leading c f) b → z ≡ file_lines last b
     → pick t (x ++ y) z ≡ file_lines (pick t (leading c f) last) b

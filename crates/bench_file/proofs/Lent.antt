@@ -2,9 +2,8 @@
 use Prim.Native.Nat.{ℕ, ◌-◌, ◌≤◌}
 use mathlib.Core.Bool.{true}
 use mathlib.Core.List.{List}
-use mathlib.Core.Path.{◌≡◌, ◌∙◌}
+use mathlib.Core.Path.{◌≡◌, sym, ◌∙◌}
 use native.Mathlib.Omega.{arith}
-use borrow.Author.Tests.{ne_eqb}
 use lib.ListN.{length, take, drop}
 use Rattle.octets.specs.Bytes.{byte_at, part, zeros}
 use Rattle.octets.specs.Words.{word_at}
@@ -13,17 +12,19 @@ use Rattle.framing.specs.Frames.{header_size, data_size, frame_size, whole}
 use Rattle.framing.proofs.Fronts.{whole_is}
 use Rattle.framing.proofs.Lent.{lent_data}
 use Rattle.purse_spec.specs.History.{install, start, send}
-use Rattle.bench_file.specs.Kinds.{area_size, size_ok, call_of, first_call}
+use Rattle.bench_file.specs.declared.kind.Kind.{Kind}
+use Rattle.bench_file.specs.declared.kind.Kind.TheVariants.{Installation, Startup, Command}
+use Rattle.bench_file.specs.Kinds.{number, area_size, size_ok, call_of, first_call}
 use Rattle.bench_file.proofs.Headers.{Suited, installs, starts, sends, whole_suited}
 
 -- the bytes of a frame behind its header, up to its end
 abbrev pub lent : List ℕ → ℕ → List ℕ
 lent s end = take (end - header_size) (drop header_size s)
 
-module _ (s : List ℕ) (end : ℕ) (w : whole size_ok s ≡ true) (e : end ≡ frame_size s) where
+module _ (s : List ℕ) (end : ℕ) (w : whole size_ok s ≡ true) (d : end ≡ frame_size s) where
   data_length_lem : length (lent s end) ≡ data_size s
   unfolding frame_size
-  data_length_lem = rw (lent_data size_ok s end w e) (length_part s header_size (data_size s) (whole_is size_ok s w).long)
+  data_length_lem = rw (lent_data size_ok s end w d) (length_part s header_size (data_size s) (whole_is size_ok s w).long)
 
   pub limit_there : 2 ≤ length (lent s end)
   limit_there = rw data_length_lem (by (whole_suited s w))
@@ -33,24 +34,33 @@ module _ (s : List ℕ) (end : ℕ) (w : whole size_ok s ≡ true) (e : end ≡ 
       by (starts k n) = omega arith
       by (sends k n) = omega arith
 
-  module _ (kind : ℕ) (k : kind ≡ byte_at s 2) where
-    pub random_there : (kind ≡ 0x01 → ⊥) → (kind ≡ 0x02 → ⊥) → 10 ≤ length (lent s end)
-    random_there f g = rw data_length_lem (by (whole_suited s w))
+  -- its kind, by the byte that says it
+  module _ (byte : ℕ) (b : byte ≡ byte_at s 2) where
+    pub some_kind : ((kind : Kind) → number kind ≡ byte → ⊥) → ⊥
+    some_kind f = by (whole_suited s w)
+      where
+        by : Suited (byte_at s 2) (data_size s) → ⊥
+        by (installs h n) = f Installation (sym (b ∙ h))
+        by (starts h n) = f Startup (sym (b ∙ h))
+        by (sends h n) = f Command (sym (b ∙ h))
+
+    pub random_there : number Command ≡ byte → 10 ≤ length (lent s end)
+    random_there e = rw data_length_lem (by (whole_suited s w))
       where
         by : Suited (byte_at s 2) (data_size s) → 10 ≤ data_size s
-        by (installs h n) = absurd (f (k ∙ h))
-        by (starts h n) = absurd (g (k ∙ h))
+        by (installs h n) = omega (arith, e ∙ b ∙ h)
+        by (starts h n) = omega (arith, e ∙ b ∙ h)
         by (sends h n) = n
 
-    pub call_01 : kind ≡ 0x01 → first_call s ≡ install (drop 2 (lent s end)) (word_at (lent s end) 0)
+    pub call_01 : number Installation ≡ byte → first_call s ≡ install (drop 2 (lent s end)) (word_at (lent s end) 0)
     unfolding call_of
-    call_01 h = rw (← k, h, lent_data size_ok s end w e)
+    call_01 e = rw (← b, ← e, lent_data size_ok s end w d)
 
-    pub call_02 : kind ≡ 0x02 → first_call s ≡ start (word_at (lent s end) 0)
+    pub call_02 : number Startup ≡ byte → first_call s ≡ start (word_at (lent s end) 0)
     unfolding call_of
-    call_02 h = rw (← k, h, lent_data size_ok s end w e)
+    call_02 e = rw (← b, ← e, lent_data size_ok s end w d)
 
-    pub call_03 : (kind ≡ 0x01 → ⊥) → (kind ≡ 0x02 → ⊥)
+    pub call_03 : number Command ≡ byte
         → first_call s ≡ send (drop 10 (lent s end)) (part (lent s end) 2 8) (zeros area_size) (word_at (lent s end) 0)
     unfolding call_of
-    call_03 f g = rw (← k, ne_eqb kind 0x01 f, ne_eqb kind 0x02 g, lent_data size_ok s end w e)
+    call_03 e = rw (← b, ← e, lent_data size_ok s end w d)

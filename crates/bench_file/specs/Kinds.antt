@@ -6,6 +6,14 @@ use Rattle.octets.specs.Bytes.{zeros, part}
 use Rattle.octets.specs.Words.{word_at}
 use Rattle.framing.specs.Frames.{frame_kind, frame_data, frame_size, whole}
 use Rattle.purse_spec.specs.History.{Call, install, start, send}
+use Rattle.bench_file.specs.declared.kind.Kind.{Kind}
+use Rattle.bench_file.specs.declared.kind.Kind.TheVariants.{Installation, Startup, Command}
+
+-- "Kind 01: installation .. 02: start-up .. 03: .. command"
+abbrev pub number : Kind → ℕ
+number Installation = 0x01
+number Startup = 0x02
+number Command = 0x03
 
 -- "data over 512 bytes"
 abbrev pub most_data : ℕ

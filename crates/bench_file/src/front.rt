@@ -3,22 +3,22 @@ ghost use Rattle.std.specs.Prelude.{◌≡◌};
 ghost use Rattle.framing.specs.Frames.{front_of};
 ghost use Rattle.bench_file.specs.Kinds.{size_ok};
 
+use crate::kind::Kind;
 use framing::{Front, leads};
 use octets::{byte_at, word_at};
 
 // Whether a kind may have so many bytes of data.
+#[tactic(auto, unfolding(crate::specs::Kinds::size_ok))]
 fn size_ok(kind: u8, n: u16) -> bool
     ensures { result ≡ size_ok kind n }
 {
-    if 512 < n {
-        return false;
-    }
-    match kind {
-        0x01 => 2 <= n,
-        0x02 => n == 2,
-        0x03 => 10 <= n,
-        _ => false,
-    }
+    n <= 512
+        && match Kind::of(kind) {
+            Some(Kind::Installation) => 2 <= n,
+            Some(Kind::Startup) => n == 2,
+            Some(Kind::Command) => 10 <= n,
+            None => false,
+        }
 }
 
 // A whole frame, what no byte behind it can mend, or what more bytes may make a frame.

@@ -3,7 +3,10 @@
 
 mod frame;
 mod front;
+mod kind;
 mod line;
 mod turns;
 
-pub use turns::{LONGEST_LINE, Turned, last_line, turn};
+pub use frame::Runner;
+pub use line::LONGEST_LINE;
+pub use turns::{Turned, last_line};

@@ -2,16 +2,17 @@
 use mathlib.Core.Path.{◌≡◌, refl, sym, ap, ◌∙◌}
 use mathlib.Core.Bool.{true}
 use mathlib.Core.List.{List, [], ◌∷◌, ◌++◌, append_assoc, append-nil}
-use Prim.Native.Nat.{ℕ, ◌+◌, ◌<◌}
+use Prim.Native.Nat.{ℕ, zero, suc, ◌+◌, ◌-◌, ◌≤◌, ◌<◌}
+use native.Mathlib.Decide.{dec_le}
 use native.Mathlib.Omega.{arith}
-use native.Mathlib.Nat.{zero-add}
-use lib.ListN.{length, get_or, length-append}
-use lib.Seq.{get_or-drop}
+use native.Mathlib.Nat.{zero-add, add-zero, lt_of_not-le}
+use lib.ListN.{length, get_or, length-append, get_or-append}
+use lib.Seq.{get_or-drop, get_or-append-add}
 use Rattle.octets.specs.Bytes.{AreBytes, Octets, zeros, byte_at, field, all_zero}
-use Rattle.octets.specs.Words.{word}
+use Rattle.octets.specs.Words.{word, word_at}
 use Rattle.octets.proofs.Octets.{append_octets, byte_octets, word_octets, field_octets}
 use Rattle.octets.proofs.Numbers.{word-at_below}
-use Rattle.octets.proofs.Parts.{field_at, field-part, part-between}
+use Rattle.octets.proofs.Parts.{length-field, field_is, field_at, field-part, part-between}
 use Rattle.octets.proofs.Equality.{zero_zeros, zeros_zero}
 use Rattle.card.specs.declared.head.Keys.{Keys}
 use Rattle.card.specs.declared.log.Record.{Record}
@@ -85,6 +86,43 @@ record_sized l f =
       context = field_octets l 8 16 f;
       keyset = f 24;
     }
+
+-- fields one after the other are one
+field-join : (l : List ℕ) (at n m : ℕ) → field l at n ++ field l (at + n) m ≡ field l at (n + m)
+field-join l at n m =
+    field_is l (field l at n ++ field l (at + n) m) at (n + m) (rw (length-append, length-field l at n, length-field l (at + n) m))
+    (λ i h. elim (dec_le n i) [ yes a ↦ second i h a | no a ↦ first i (lt_of_not-le a) ])
+  where
+    first : (i : ℕ) → i < n → byte_at (field l at n ++ field l (at + n) m) i ≡ byte_at l (at + i)
+    first i h = get_or-append (field l at n) (field l (at + n) m) 0 i (rw length-field h) ∙ field_at l at n i h
+
+    second : (i : ℕ) → i < n + m → n ≤ i → byte_at (field l at n ++ field l (at + n) m) i ≡ byte_at l (at + i)
+    second i h a =
+        let e : i ≡ length (field l at n) + (i - n) = rw length-field (omega arith) in
+        let q : at + n + (i - n) ≡ at + i = omega arith in
+        ap (byte_at (field l at n ++ field l (at + n) m)) e
+        ∙ get_or-append-add (field l at n) (field l (at + n) m) (i - n) 0
+        ∙ field_at l (at + n) m (i - n) (omega arith)
+        ∙ ap (byte_at l) q
+
+-- a number's two bytes, as they were read
+two_bytes : (l : List ℕ) (at : ℕ) → AreBytes l → word (word_at l at) ≡ field l at 2
+two_bytes l at f = field_is l (word (word_at l at)) at 2 refl go
+  where
+    go : (i : ℕ) → i < 2 → byte_at (word (word_at l at)) i ≡ byte_at l (at + i)
+    go zero h = let b = f (at + 1) in rw add-zero (omega arith)
+    go (suc zero) h = let b = f (at + 1) in omega arith
+    go (suc (suc i)) h = absurd (omega arith)
+
+-- the record that bytes say has these bytes
+pub bytes_read : (l : List ℕ) → AreBytes l → record_bytes (record_in l) ≡ field l 0 record_size
+unfolding record_bytes record_in
+bytes_read l f =
+    let one : byte_at l 24 ∷ [] ≡ field l 24 1 = field_is l (byte_at l 24 ∷ []) 24 1 refl (λ i h. let e : i ≡ 0 = omega arith in rw e) in
+    let joined : field l 0 2 ++ field l 2 2 ++ field l 4 2 ++ field l 6 2 ++ field l 8 16 ++ field l 24 1 ≡ field l 0 25 =
+    rw (field-join l 0 2 2, field-join l 0 4 2, field-join l 0 6 2, field-join l 0 8 16, field-join l 0 24 1)
+    in
+    (λ i. two_bytes l 0 f i ++ two_bytes l 2 f i ++ two_bytes l 4 f i ++ two_bytes l 6 f i ++ field l 8 16 ++ one i) ∙ joined
 
 -- ---- three keys
 

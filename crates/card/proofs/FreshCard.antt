@@ -7,7 +7,7 @@ use native.Mathlib.Omega.{arith}
 use borrow.Author.Tests.{le-leb}
 use lib.ListN.{get_or, replicate, length-replicate}
 use Rattle.octets.specs.Tests.{all_true}
-use Rattle.octets.specs.Bytes.{Octets, same, all_zero}
+use Rattle.octets.specs.Bytes.{Octets}
 use Rattle.octets.proofs.Conditions.{all_true_lem}
 use Rattle.octets.proofs.Octets.{zeros_octets}
 use Rattle.card.specs.declared.head.Aid.{Aid}
@@ -65,11 +65,11 @@ fresh-sized fixed aid admin a k =
 
 module _ (fixed : Fixed) (aid : Aid) (admin : Keys) (q : Installable fixed aid admin) where
   parameters_true : all_true (parameter_tests no_parameters) ≡ true
-  unfolding parameter_tests bank_ok agent_ok unset all_zero same
+  unfolding parameter_tests bank_ok agent_ok unset
   parameters_true = refl
 
   keys_true : keys_ok no_key_set ≡ true
-  unfolding keys_ok all_zero same
+  unfolding keys_ok
   keys_true = refl
 
   purse_true : all_true (purse_tests (no_purse aid)) ≡ true
@@ -77,7 +77,7 @@ module _ (fixed : Fixed) (aid : Aid) (admin : Keys) (q : Installable fixed aid a
   purse_true = all_true_lem (purse_tests (no_purse aid)) (q.named, (parameters_true, (keys_true, (keys_true, (refl, (refl, tt))))))
 
   pin_true : pin_ok (fresh_head fixed aid admin).pin ≡ true
-  unfolding fresh_head pin_ok all_zero same
+  unfolding fresh_head pin_ok
   pin_true = refl
 
   state_true : all_true (state_tests (fresh_head fixed aid admin)) ≡ true

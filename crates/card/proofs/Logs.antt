@@ -1,22 +1,22 @@
 -- Which logs a card may have, record by record: each is void or, on a personalized card, has a key set from 01 to 03. Assumes nothing.
-use mathlib.Core.Bool.{Bool, true, false, ◌||◌}
+use mathlib.Core.Bool.{Bool, true, false, ◌&&◌, ◌||◌}
 use mathlib.Core.List.{List, [], ◌∷◌}
 use mathlib.Core.Logic.{◌⊎◌, inl, inr}
-use mathlib.Core.Path.{◌≡◌, refl, sym, ap, ◌∙◌}
+use mathlib.Core.Path.{◌≡◌, refl, ap, ◌∙◌}
 use Prim.Native.Nat.{ℕ, zero, suc, ◌<◌}
 use native.Mathlib.Omega.{arith}
 use borrow.Author.Tests.{leb-true, le-leb}
 use lib.Dec.{leb}
 use lib.ListN.{length, get_or}
-use Rattle.octets.specs.Bytes.{byte_at, all_zero}
+use Rattle.octets.specs.Bytes.{AreBytes, byte_at, all_zero, field}
 use Rattle.octets.specs.Tests.{all_true}
 use Rattle.octets.proofs.Conditions.{and_both, each, all_true_lem}
 use Rattle.octets.proofs.Rules.{and_yes, or_left, or_right}
 use Rattle.card.specs.declared.log.Record.{Record}
-use Rattle.card.specs.Log.{void, record_bytes, record_in}
+use Rattle.card.specs.Log.{record_size, void, record_bytes, record_in}
 use Rattle.card.specs.Card.{Card}
 use Rattle.card.specs.Proper.{record_ok, log_ok, SizedRecord, HasKeySet, Proper}
-use Rattle.card.proofs.Bytes.{void_read, void_zero}
+use Rattle.card.proofs.Bytes.{void_read, void_zero, bytes_read}
 
 -- void, or of a personalized card and with a key set
 abbrev pub Entry : Bool → Record → Type 0
@@ -45,21 +45,21 @@ record_passes b r (inr h) =
     or_right (all_zero (record_bytes r)) _
     (all_true_lem (b ∷ leb 1 r.keyset ∷ leb r.keyset 3 ∷ []) (h.0, (le-leb _ _ h.1.least, (le-leb _ _ h.1.most, tt))))
 
--- the same of bytes: by the key set, and where that isn't one by all bytes
-module _ (b z : Bool) (k : ℕ) (s : List ℕ) (e : k ≡ byte_at s 24) (t : z ≡ all_true (b ∷ leb 1 k ∷ leb k 3 ∷ [])) where
-  tested : all_true (b ∷ leb 1 (record_in s).keyset ∷ leb (record_in s).keyset 3 ∷ []) ≡ z
-  unfolding record_in
-  tested = sym (t ∙ ap (λ (n : ℕ). all_true (b ∷ leb 1 n ∷ leb n 3 ∷ [])) e)
-
-  pub by_keyset : z ≡ true → true ≡ record_ok b (record_in s)
-  unfolding record_ok
-  by_keyset q = sym (or_right (all_zero (record_bytes (record_in s))) _ (tested ∙ q))
-
-  pub by_bytes : (x : Bool) (r : Record) (l : List ℕ) → z ≡ false → r ≡ record_in s → l ≡ record_bytes r → x ≡ all_zero l → x ≡ record_ok b (record_in s)
-  unfolding record_ok
-  by_bytes x r l q f g h =
-      let a : x ≡ all_zero (record_bytes (record_in s)) = h ∙ ap all_zero (g ∙ ap record_bytes f) in
-      rw (tested ∙ q) (a ∙ sym (or_false (all_zero (record_bytes (record_in s)))))
+-- the same of bytes, the key set first
+pub ok_by : (b : Bool) (s : List ℕ) → AreBytes s
+    → record_ok b (record_in s) ≡ (b && leb 1 (byte_at s 24) && leb (byte_at s 24) 3 || all_zero (field s 0 record_size))
+unfolding record_ok record_in
+ok_by b s f = rw (← bytes_read s f) (swap (all_zero (record_bytes (record_in s))) b (leb 1 (byte_at s 24)) (leb (byte_at s 24) 3))
+  where
+    swap : (z b c d : Bool) → (z || all_true (b ∷ c ∷ d ∷ [])) ≡ (b && c && d || z)
+    swap true true true true = refl
+    swap true true true false = refl
+    swap true true false d = refl
+    swap true false c d = refl
+    swap false true true true = refl
+    swap false true true false = refl
+    swap false true false d = refl
+    swap false false c d = refl
 
 -- ---- a log
 

@@ -1,6 +1,6 @@
 -- The parity of bytes and keys: document 02, request 5, "Each .. key byte must have an odd number of ones". The test holds exactly where the
 -- binary digits of each byte add up to an odd number, and whatever keys are taken have it in every byte. Assumes nothing.
-use mathlib.Core.Bool.{Bool, true, false, ◌&&◌, false≢true}
+use mathlib.Core.Bool.{Bool, true, false, ◌&&◌}
 use mathlib.Core.List.{List, [], ◌∷◌, ◌++◌}
 use mathlib.Core.Path.{◌≡◌, refl, sym, ap, ◌∙◌, subst}
 use Prim.Native.Nat.{ℕ, zero, suc, ◌+◌, ◌-◌, ◌*◌, ◌/◌, ◌%◌, ◌≤◌, ◌<◌}
@@ -11,15 +11,16 @@ use native.Mathlib.Nat.{div-div-eq-div-mul, div-eq_of_lt, lt_of_not-le}
 use lib.Count.{ones, ones_step}
 use lib.Dec.{eqb}
 use lib.ListN.{length}
+use Rattle.std.specs.List.{list_all}
+use Rattle.std.specs.Prelude.{Option, Some, None}
+use Rattle.std.proofs.lemmas.Option.{none-some, same_Some}
 use Rattle.octets.specs.Bytes.{AreBytes, Octets, byte_at}
 use Rattle.octets.specs.Tests.{all_true}
 use Rattle.octets.proofs.Conditions.{each, and_both}
 use Rattle.octets.proofs.Equality.{fails}
 use Rattle.octets.proofs.Rules.{pick_holds}
 use Rattle.card.specs.declared.head.Keys.{Keys}
-use Rattle.card.specs.declared.keys.TakenKeys.{TakenKeys}
 use Rattle.card.specs.Keys.{key_bytes, keys_in, odd_parity, odd_keys, take_keys, OddDigits, AllOdd, OddKeys, Takes}
-use Rattle.card.specs.Card.{no_keys}
 use Rattle.card.specs.Proper.{SizedKeys}
 use Rattle.card.proofs.Bytes.{keys_read, keys-sized, ThreeKeys, three_keys}
 
@@ -49,6 +50,12 @@ parity_append (x ∷ a) b = rw (parity_append a b) (and_assoc (eqb (ones x % 2) 
     and_assoc : (p q r : Bool) → (p && (q && r)) ≡ (p && q && r)
     and_assoc true q r = refl
     and_assoc false q r = refl
+
+-- the same test as one of all bytes
+pub parity_all : (l : List ℕ) → odd_parity l ≡ list_all (λ b. eqb (ones b % 2) 1) l
+unfolding odd_parity
+parity_all [] = refl
+parity_all (b ∷ l) = ap (λ t. eqb (ones b % 2) 1 && t) (parity_all l)
 
 -- ---- the number of ones is the sum of the binary digits
 
@@ -140,34 +147,38 @@ module _ (l : List ℕ) where
 
 module _ (l : List ℕ) (f : AreBytes l) where
   -- only bytes that are odd in every place
-  pub taken-odd : (take_keys l).ok ≡ true → AllOdd 48 l
+  pub taken-odd : (k : Keys) → take_keys l ≡ Some k → AllOdd 48 l
   unfolding take_keys
-  taken-odd = pick_holds (λ (r : TakenKeys). r.ok ≡ true → AllOdd 48 l) (odd_keys (keys_in l)) _ _
-      (λ e q. odd-places l (keys_told (keys_in l) (keys-sized l f) e)) (λ e q. absurd (false≢true q))
+  taken-odd k = pick_holds (λ (r : Option Keys). r ≡ Some k → AllOdd 48 l) (odd_keys (keys_in l)) _ _
+      (λ e q. odd-places l (keys_told (keys_in l) (keys-sized l f) e)) (λ e q. absurd (none-some k q))
 
   -- and all that are
-  pub odd-taken : AllOdd 48 l → take_keys l ≡ record { ok = true; keys = keys_in l }
+  pub odd-taken : AllOdd 48 l → take_keys l ≡ Some (keys_in l)
   unfolding take_keys
   odd-taken d = rw (keys_pass (keys_in l) (keys-sized l f) (places-odd l d))
 
   -- what was accepted has its sizes and passes the test
-  pub taken-sized : (take_keys l).ok ≡ true → SizedKeys (take_keys l).keys × (odd_keys (take_keys l).keys ≡ true)
+  pub taken-sized : (k : Keys) → take_keys l ≡ Some k → SizedKeys k × (odd_keys k ≡ true)
   unfolding take_keys
-  taken-sized =
-      pick_holds (λ (r : TakenKeys). r.ok ≡ true → SizedKeys r.keys × (odd_keys r.keys ≡ true)) (odd_keys (keys_in l)) _ _
-      (λ e q. (keys-sized l f, e)) (λ e q. absurd (false≢true q))
+  taken-sized k =
+      pick_holds (λ (r : Option Keys). r ≡ Some k → SizedKeys k × (odd_keys k ≡ true)) (odd_keys (keys_in l)) _ _
+      (λ e q. let h = same_Some _ _ q in (subst SizedKeys h (keys-sized l f), ap odd_keys (sym h) ∙ e)) (λ e q. absurd (none-some k q))
 
 -- the bytes of keys of odd parity are taken as these keys
-pub keys-taken : (k : Keys) → SizedKeys k → OddKeys k → take_keys (key_bytes k) ≡ record { ok = true; keys = k }
+pub keys-taken : (k : Keys) → SizedKeys k → OddKeys k → take_keys (key_bytes k) ≡ Some k
 unfolding take_keys
 keys-taken k z o = rw (keys_read k z, keys_pass k z o)
 
 -- the routine's promise, where it accepts and where it refuses
 module _ (l : List ℕ) (k : Keys) (e : k ≡ keys_in l) where
-  pub accepts : AreBytes l → odd_keys k ≡ true → Takes l (record { ok = true; keys = k })
+  pub accepts : AreBytes l → odd_keys k ≡ true → Takes l (Some k)
   unfolding take_keys
-  accepts f o = record { taken = rw (← e, o); odd = λ q. keys_told k (subst SizedKeys (sym e) (keys-sized l f)) o }
+  accepts f o =
+      record {
+        taken = rw (← e, o);
+        odd = λ x q. subst OddKeys (same_Some k x q) (keys_told k (subst SizedKeys (sym e) (keys-sized l f)) o);
+      }
 
-  pub rejects : (none : Keys) → none ≡ no_keys → odd_keys k ≡ false → Takes l (record { ok = false; keys = none })
+  pub rejects : odd_keys k ≡ false → Takes l None
   unfolding take_keys
-  rejects none n o = record { taken = rw (← e, o, n); odd = λ q. absurd (false≢true q) }
+  rejects o = record { taken = rw (← e, o); odd = λ x q. absurd (none-some x q) }

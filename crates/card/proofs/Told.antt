@@ -2,6 +2,7 @@
 -- leaves as it was. Assumes nothing.
 use mathlib.Core.Path.{◌≡◌, refl}
 use mathlib.Core.Bool.{true, false}
+use Rattle.std.specs.Prelude.{Some}
 use mathlib.Core.List.{List, [], ◌∷◌}
 use Prim.Native.Nat.{ℕ, suc, ◌-◌, ◌<◌}
 use native.Mathlib.Omega.{arith}
@@ -43,7 +44,7 @@ pub record Pushed (r : Record) (log next : List Record) : Type 0 where
   pub newest : get_or next 0 void ≡ r
   pub older : (i : ℕ) → suc i < length log → get_or next (suc i) void ≡ get_or log i void
 
-pub log_pushed : (r : Record) (log : List Record) → 0 < length log → Pushed r log (log_after true r log)
+pub log_pushed : (r : Record) (log : List Record) → 0 < length log → Pushed r log (log_after (Some r) log)
 unfolding log_after
 log_pushed r log h =
     record {

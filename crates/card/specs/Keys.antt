@@ -1,12 +1,10 @@
 -- Three keys: document 01, "administration key set, 48 bytes (S-ENC, S-MAC, DEK, 16 each)"; document 02, request 5, "FIPS 46-3 keeps an odd
 -- number of ones in each key byte". Assumes nothing.
-use Rattle.std.specs.Prelude.{Bool, true, false, ◌&&◌, List, [], ◌∷◌, ◌++◌, ◌≡◌, ℕ, ◌+◌, ◌/◌, ◌%◌, ◌<◌, eqb}
+use Rattle.std.specs.Prelude.{Bool, true, ◌&&◌, Option, Some, None, List, [], ◌∷◌, ◌++◌, ◌≡◌, ℕ, ◌+◌, ◌/◌, ◌%◌, ◌<◌, eqb}
 use Rattle.std.specs.Int.Count.{ones}
 use Rattle.octets.specs.Choice.{pick}
 use Rattle.octets.specs.Bytes.{byte_at, field}
 use Rattle.card.specs.declared.head.Keys.{Keys}
-use Rattle.card.specs.declared.keys.TakenKeys.{TakenKeys}
-use Rattle.card.specs.Card.{no_keys}
 
 -- how many bytes they have
 abbrev pub keys_size : ℕ
@@ -32,8 +30,8 @@ unfoldable pub odd_keys : Keys → Bool
 odd_keys k = odd_parity (key_bytes k)
 
 -- "the routine that takes a key set": the keys that bytes say, or none where a byte has an even number of ones
-unfoldable pub take_keys : List ℕ → TakenKeys
-take_keys l = pick (odd_keys (keys_in l)) (record { ok = true; keys = keys_in l }) (record { ok = false; keys = no_keys })
+unfoldable pub take_keys : List ℕ → Option Keys
+take_keys l = pick (odd_keys (keys_in l)) (Some (keys_in l)) None
 
 -- ---- the same in other words
 
@@ -52,6 +50,6 @@ pub record OddKeys (k : Keys) : Type 0 where
   pub dek : AllOdd 16 k.dek
 
 -- what the routine promises: its definition, and odd parity of whatever it accepts
-pub record Takes (l : List ℕ) (r : TakenKeys) : Type 0 where
+pub record Takes (l : List ℕ) (r : Option Keys) : Type 0 where
   pub taken : r ≡ take_keys l
-  pub odd : r.ok ≡ true → OddKeys r.keys
+  pub odd : (k : Keys) → r ≡ Some k → OddKeys k

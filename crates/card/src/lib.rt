@@ -3,18 +3,16 @@
 #![tactic(auto)]
 
 pub mod change;
-pub mod fresh;
+mod fresh;
 pub mod head;
 pub mod keys;
 pub mod log;
 mod pin;
 mod proper;
-pub mod updates;
+mod updates;
 
-pub use change::{Change, cold_change, hot_change, logged_change};
-pub use fresh::fresh_head;
+pub use change::Change;
 pub use head::{Aid, Bank, Fixed, Head, KeySet, Keys, Parameters, Pin, Purse, Shared, State};
-pub use keys::{TakenKeys, keys_in, take_keys};
-pub use log::{Record, record_bytes, record_in, record_ok};
+pub use keys::take_keys;
+pub use log::Record;
 pub use pin::well_formed;
-pub use proper::is_proper;

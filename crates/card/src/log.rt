@@ -11,7 +11,7 @@ pub const KEYSET_AT: usize = 24;
 
 // Number, currency, amount (a debit's in two's complement), the new balance, the context, and the key set that opened the channel; 0 in a
 // void record.
-#[derive(Clone, Copy)]
+#[derive(Clone, Copy, PartialEq, Eq, Debug, Default)]
 pub struct Record {
     pub number: u16,
     pub currency: u16,
@@ -21,61 +21,49 @@ pub struct Record {
     pub keyset: u8,
 }
 
-// A void record.
-pub fn void() -> Record
-    ensures { result ≡ void }
-{
-    Record {
-        number: 0,
-        currency: 0,
-        amount: 0,
-        balance: 0,
-        context: [0; 16],
-        keyset: 0,
+impl Record {
+    // A void record.
+    pub fn void() -> Record
+        ensures { result ≡ void }
+    {
+        Record::default()
     }
-}
 
-// A record's bytes.
-pub fn record_bytes(r: Record) -> [u8; RECORD_SIZE]
-    ensures { result ≡ record_bytes r }
-{
-    let context = r.context;
-    let a = octets::append_word(octets::empty(), r.number);
-    let b = octets::append_word(a, r.currency);
-    let c = octets::append_word(b, r.amount);
-    let d = octets::append_word(c, r.balance);
-    let e = octets::append16(d, context);
-    let all = octets::append_byte(e, r.keyset);
-    let bytes = all.bytes;
-    let mut s = [0u8; RECORD_SIZE];
-    octets::fill(&mut s, &bytes, 0);
-    s
-}
-
-// The record that bytes say.
-pub fn record_in(s: &[u8]) -> Record
-    ensures { result ≡ record_in s.now }
-{
-    let context = octets::part16(s, 8);
-    Record {
-        number: octets::word_at(s, 0),
-        currency: octets::word_at(s, 2),
-        amount: octets::word_at(s, 4),
-        balance: octets::word_at(s, 6),
-        context: context,
-        keyset: octets::byte_at(s, KEYSET_AT),
+    // The record that bytes say.
+    #[tactic(auto, unfolding(crate::specs::Log::record_in))]
+    pub fn from_bytes(s: &[u8]) -> Record
+        ensures { result ≡ record_in s.now }
+    {
+        Record {
+            number: octets::word_at(s, 0),
+            currency: octets::word_at(s, 2),
+            amount: octets::word_at(s, 4),
+            balance: octets::word_at(s, 6),
+            context: octets::part(s, 8),
+            keyset: octets::byte_at(s, KEYSET_AT),
+        }
     }
-}
 
-// Whether the record that bytes say is void or, on a personalized card, has a key set.
-pub fn record_ok(s: &[u8], personalized: bool) -> bool
-    ensures { result ≡ record_ok personalized (record_in s.now) }
-{
-    let keyset = octets::byte_at(s, KEYSET_AT);
-    let tests = [personalized, 1 <= keyset, keyset <= 3];
-    if octets::all_true(&tests) {
-        return true;
+    // Its bytes.
+    pub fn to_bytes(self) -> [u8; RECORD_SIZE]
+        ensures { result ≡ record_bytes self }
+    {
+        let mut s = [0; RECORD_SIZE];
+        s[0..2].copy_from_slice(&self.number.to_be_bytes());
+        s[2..4].copy_from_slice(&self.currency.to_be_bytes());
+        s[4..6].copy_from_slice(&self.amount.to_be_bytes());
+        s[6..8].copy_from_slice(&self.balance.to_be_bytes());
+        s[8..24].copy_from_slice(&self.context);
+        s[KEYSET_AT] = self.keyset;
+        s
     }
-    let bytes = record_bytes(record_in(s));
-    octets::all_zero(&bytes)
+
+    // Whether the record that bytes say is void or, on a personalized card, has a key set.
+    #[tactic(auto, using(crate::proofs::Logs::ok_by))]
+    pub fn accepts(s: &[u8], personalized: bool) -> bool
+        ensures { result ≡ record_ok personalized (record_in s.now) }
+    {
+        personalized && (1..=3).contains(&octets::byte_at(s, KEYSET_AT))
+            || octets::all_zero(&octets::part::<RECORD_SIZE>(s, 0))
+    }
 }

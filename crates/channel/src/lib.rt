@@ -9,4 +9,4 @@ mod transport;
 pub use cryptograms::{card_cryptogram, host_cryptogram};
 pub use keys::{derivation, session_key};
 pub use macs::{cmac, rmac};
-pub use transport::{bank_received, bank_sent, receive, received8, received48};
+pub use transport::{bank_received, bank_sent, receive, received};

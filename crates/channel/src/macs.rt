@@ -1,45 +1,32 @@
 // The signatures of commands and answers.
-ghost use Rattle.std.specs.Prelude.{◌≡◌, ◌++◌};
-ghost use Rattle.octets.specs.Bytes.{zeros, paste};
-ghost use Rattle.octets.specs.Words.{word};
+ghost use Rattle.std.specs.Prelude.{◌≡◌};
 ghost use Rattle.octets.specs.Buffers.{content};
 ghost use Rattle.channel.specs.Channel.{cmac_of, rmac_of};
 
-use octets::{Buffer, paste, size};
+use octets::{Buffer, CAPACITY, paste};
 use tdes::{Engine, signature};
 
 // A C-MAC, a buffer's bytes and a status word.
-const LONGEST: usize = 8 + 128 + 2;
+const LONGEST: usize = 8 + CAPACITY + 2;
 
 // The C-MAC over the first `n` bytes of a command, all where it has fewer.
+#[tactic(auto, unfolding(crate::specs::Channel::cmac_of))]
 pub fn cmac(engine: Engine, mac: [u8; 16], start: [u8; 8], command: &[u8], n: usize) -> [u8; 8]
     ensures { result ≡ cmac_of mac start command.now n }
 {
-    if command.len() < n {
-        return signature(engine, mac, start, command);
-    }
-    signature(engine, mac, start, &command[..n])
+    signature(engine, mac, start, &command[..n.min(command.len())])
 }
 
-// The text of an R-MAC: the command's C-MAC, the answer's data, 90 00; zeros after it.
-fn answer_text(cmac: [u8; 8], body: Buffer) -> [u8; LONGEST]
-    ensures { result ≡ paste (zeros 138) 0 (cmac ++ content body ++ word 0x9000) }
-{
-    let n = size(body);
-    let bytes = body.bytes;
-    let done = [0x90, 0x00];
-    let mut text = [0u8; LONGEST];
-    paste(&mut text, 0, &cmac);
-    paste(&mut text, 8, &bytes[..n]);
-    paste(&mut text, 8 + n, &done);
-    text
-}
-
-// The R-MAC of an answer's data.
+// The R-MAC of an answer's data: over the command's C-MAC, these data, 90 00. The data come by value: behind a reference the proof lacks that
+// a buffer's array has 128 bytes.
 pub fn rmac(engine: Engine, mac: [u8; 16], start: [u8; 8], cmac: [u8; 8], body: Buffer) -> [u8; 8]
     ensures { result ≡ rmac_of mac start cmac (content body) }
 {
-    let n = size(body);
-    let text = answer_text(cmac, body);
-    signature(engine, mac, start, &text[..10 + n])
+    let bytes = body.as_slice();
+    let n = 8 + bytes.len();
+    let mut text = [0; LONGEST];
+    paste(&mut text, 0, &cmac);
+    paste(&mut text, 8, bytes);
+    paste(&mut text, n, &[0x90, 0x00]);
+    signature(engine, mac, start, &text[..n + 2])
 }

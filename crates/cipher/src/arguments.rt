@@ -1,26 +1,13 @@
 // The arguments: none, `--plain` or `--help`.
 use crate::output::write;
-use octets::same;
 use std::env::{Env, FillError};
+use tdes::Engine;
 
-// What the arguments ask for.
+// What the arguments ask for: the tests on an engine, or the usage.
 #[derive(Clone, Copy)]
 pub enum Asked {
-    Quick,
-    Plain,
+    Tests(Engine),
     Help,
-    Unknown,
-}
-
-// What an argument asks for.
-fn named(word: &[u8]) -> Asked {
-    if same(word, b"--plain") {
-        return Asked::Plain;
-    }
-    if same(word, b"--help") {
-        return Asked::Help;
-    }
-    Asked::Unknown
 }
 
 // Whether there is an argument of this number.
@@ -28,18 +15,20 @@ fn is_given(rt: &impl Env, i: usize) -> bool {
     !matches!(rt.arg(i, &mut []), Err(FillError::NotPresent))
 }
 
-// What the program's arguments ask for.
-pub fn read(rt: &impl Env) -> Asked {
+// What the program's arguments ask for; nothing where they are other ones, of which one may have no room.
+pub fn read(rt: &impl Env) -> Option<Asked> {
     if !is_given(rt, 1) {
-        return Asked::Quick;
+        return Some(Asked::Tests(Engine::Quick));
     }
     if is_given(rt, 2) {
-        return Asked::Unknown;
+        return None;
     }
-    let mut word = [0u8; 4096];
-    match rt.arg(1, &mut word) {
-        Ok(length) => named(&word[..length]),
-        Err(_) => Asked::Unknown, // one that has no room
+    let mut word = [0; 4096];
+    let length = rt.arg(1, &mut word).ok()?;
+    match &word[..length] {
+        b"--plain" => Some(Asked::Tests(Engine::Plain)),
+        b"--help" => Some(Asked::Help),
+        _ => None,
     }
 }
 

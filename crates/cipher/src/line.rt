@@ -1,57 +1,55 @@
-// A test line: its four fields.
-ghost use Rattle.std.specs.Prelude.{◌≤◌, length};
+// A line of the input.
+ghost use Rattle.std.specs.Prelude.{◌≤◌, unwrap_or};
+ghost use Rattle.cipher.specs.declared.line.TheConstants.{CAPACITY};
 
-use crate::output::write;
-use crate::test;
-use tdes::Engine;
+use crate::malformed::Malformed;
 
-// The index of the first space of `s` from `from` on, or `s`'s length.
-fn space(s: &[u8], from: usize) -> usize
-    requires { from ≤ length s.now }
-    ensures { (from ≤ result) × (result ≤ length s.now) }
-{
-    let mut i = from;
-    while i < s.len() {
-        if s[i] == b' ' {
-            return i;
+// How long a line can be.
+const CAPACITY: usize = 4096;
+
+// The first `len` bytes are the line so far; it has no length where there is no room for it all.
+#[derive(Clone, Copy)]
+pub struct Line {
+    bytes: [u8; CAPACITY],
+    len: Option<usize>,
+    ghost fits: { unwrap_or len 0 ≤ CAPACITY },
+}
+
+impl Line {
+    // Nothing yet.
+    pub fn new() -> Line {
+        Line {
+            bytes: [0; CAPACITY],
+            len: Some(0),
         }
-        i += 1;
     }
-    s.len()
-}
 
-fn malformed_fields(out: &impl Print) {
-    write(out, b"malformed: fields\n");
-}
+    // Nothing again.
+    pub fn clear(&mut self) {
+        self.len = Some(0);
+    }
 
-fn answer_whole(out: &impl Print, engine: Engine, s: &[u8]) {
-    let n = s.len();
-    let a = space(s, 0);
-    if a == n {
-        return malformed_fields(out);
+    // One byte more.
+    pub fn push(&mut self, byte: u8) {
+        match self.len {
+            Some(n) if n < CAPACITY => {
+                self.bytes[n] = byte;
+                self.len = Some(n + 1);
+            }
+            _ => self.len = None,
+        }
     }
-    let key = a + 1;
-    let b = space(s, key);
-    if b == n {
-        return malformed_fields(out);
-    }
-    let start = b + 1;
-    let c = space(s, start);
-    if c == n {
-        return malformed_fields(out);
-    }
-    let text = c + 1;
-    if space(s, text) != n {
-        return malformed_fields(out);
-    }
-    test::answer(out, engine, &s[0..a], &s[key..b], &s[start..c], &s[text..])
-}
 
-// Answers the line of the first `used` bytes; a line that is longer than `line` is malformed.
-pub fn answer(out: &impl Print, engine: Engine, line: &[u8], used: usize) {
-    if line.len() < used {
-        write(out, b"malformed: line\n");
-        return;
+    // Whether no byte has come.
+    pub fn is_empty(&self) -> bool {
+        self.len == Some(0)
     }
-    answer_whole(out, engine, &line[0..used])
+
+    // All its bytes.
+    pub fn bytes(&self) -> Result<&[u8], Malformed> {
+        match self.len {
+            Some(n) => Ok(&self.bytes[..n]),
+            None => Err(Malformed::Line),
+        }
+    }
 }

@@ -4,3 +4,18 @@
 pub fn write(out: &impl Print, bytes: &[u8]) {
     let _ = out.write_all(bytes);
 }
+
+// Writes a line: the digits of `bytes`, or a dash where there are none.
+pub fn print_digits(out: &impl Print, bytes: &[u8]) {
+    if bytes.is_empty() {
+        write(out, b"-");
+    }
+    for piece in bytes.chunks(256) {
+        let mut room = [0; 512];
+        let digits = &mut room[..2 * piece.len()];
+        hex::encode_to_slice(piece, digits).unwrap();
+        digits.make_ascii_uppercase();
+        write(out, digits);
+    }
+    write(out, b"\n");
+}

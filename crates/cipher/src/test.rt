@@ -1,187 +1,156 @@
 // A test: what its kind asks of the cipher.
-use crate::hex;
-use crate::output::write;
+use crate::malformed::Malformed;
+use hex::FromHex;
 use tdes::Engine;
 
-// What two-key triple DES is asked for; `true` where it deciphers.
+// The bytes of the longest text: a line has digits for no more.
+pub const ROOM: usize = 2048;
+
+// What is done: a DES block, deciphered or not, so many times, each result the next text; or a mode of triple DES, deciphered or not.
 #[derive(Clone, Copy)]
-enum Mode {
+enum Kind {
+    Des(bool, usize),
     Ecb(bool),
     Cbc(bool),
     Signature,
 }
 
-// A DES block, deciphered or not, so many times; or a mode of triple DES.
+impl Kind {
+    // The kind that a field names.
+    fn of(field: &[u8]) -> Result<Kind, Malformed> {
+        match field {
+            b"DE" => Ok(Kind::Des(false, 1)),
+            b"DD" => Ok(Kind::Des(true, 1)),
+            b"ME" => Ok(Kind::Des(false, 10000)),
+            b"MD" => Ok(Kind::Des(true, 10000)),
+            b"TE" => Ok(Kind::Ecb(false)),
+            b"TD" => Ok(Kind::Ecb(true)),
+            b"CE" => Ok(Kind::Cbc(false)),
+            b"CD" => Ok(Kind::Cbc(true)),
+            b"SG" => Ok(Kind::Signature),
+            _ => Err(Malformed::Kind),
+        }
+    }
+}
+
+// The bytes that a field of fixed length says, or what is wrong.
+fn fixed<const N: usize>(field: &[u8], wrong: Malformed) -> Result<[u8; N], Malformed> {
+    <[u8; N]>::from_hex(field).map_err(|_| wrong)
+}
+
+// A kind, and the fields that it reads.
 #[derive(Clone, Copy)]
-enum Kind {
-    Des(bool, usize),
-    Triple(Mode),
-    Unknown,
+pub struct Test<'a> {
+    kind: Kind,
+    key: &'a [u8],
+    start: &'a [u8],
+    text: &'a [u8],
 }
 
-// The kinds that end in E or D.
-fn directed(first: u8, decipher: bool) -> Kind {
-    match first {
-        b'D' => Kind::Des(decipher, 1),
-        b'M' => Kind::Des(decipher, 10000),
-        b'T' => Kind::Triple(Mode::Ecb(decipher)),
-        b'C' => Kind::Triple(Mode::Cbc(decipher)),
-        _ => Kind::Unknown,
-    }
-}
-
-fn kind_of(field: &[u8]) -> Kind {
-    if field.len() != 2 {
-        return Kind::Unknown;
-    }
-    let first = field[0];
-    let second = field[1];
-    match second {
-        b'E' => directed(first, false),
-        b'D' => directed(first, true),
-        b'G' => match first {
-            b'S' => Kind::Triple(Mode::Signature),
-            _ => Kind::Unknown,
-        },
-        _ => Kind::Unknown,
-    }
-}
-
-fn is_dash(field: &[u8]) -> bool {
-    if field.len() != 1 {
-        return false;
-    }
-    field[0] == b'-'
-}
-
-// NIST SP 800-17's inner loop: each result is the next text.
-fn repeated(engine: Engine, key: [u8; 8], decipher: bool, times: usize, block: [u8; 8]) -> [u8; 8] {
-    let mut b = block;
-    for _ in 0..times {
-        let next = tdes::des_block(engine, key, decipher, b);
-        b = next;
-    }
-    b
-}
-
-fn answer_des(
-    out: &impl Print,
-    engine: Engine,
-    decipher: bool,
-    times: usize,
-    key: &[u8],
-    start: &[u8],
-    text: &[u8],
-) {
-    let mut k = [0u8; 8];
-    if hex::decode(key, &mut k) != 8 {
-        write(out, b"malformed: key\n");
-        return;
-    }
-    if !is_dash(start) {
-        write(out, b"malformed: start\n");
-        return;
-    }
-    let mut b = [0u8; 8];
-    if hex::decode(text, &mut b) != 8 {
-        write(out, b"malformed: text\n");
-        return;
-    }
-    hex::print(out, &repeated(engine, k, decipher, times, b))
-}
-
-// ECB takes no start value: its field is a dash.
-fn read_start(mode: Mode, field: &[u8], start: &mut [u8; 8]) -> bool {
-    match mode {
-        Mode::Ecb(_) => is_dash(field),
-        Mode::Cbc(_) => hex::decode(field, start) == 8,
-        Mode::Signature => hex::decode(field, start) == 8,
-    }
-}
-
-fn cbc(engine: Engine, decipher: bool, key: [u8; 16], start: [u8; 8], text: &mut [u8]) {
-    if decipher {
-        return tdes::cbc_decipher(engine, key, start, text);
-    }
-    tdes::cbc_encipher(engine, key, start, text)
-}
-
-fn print_triple(
-    out: &impl Print,
-    engine: Engine,
-    mode: Mode,
-    key: [u8; 16],
-    start: [u8; 8],
-    text: &mut [u8],
-) {
-    match mode {
-        Mode::Ecb(decipher) => {
-            tdes::ecb(engine, key, decipher, text);
-            hex::print(out, text)
-        }
-        Mode::Cbc(decipher) => {
-            cbc(engine, decipher, key, start, text);
-            hex::print(out, text)
-        }
-        Mode::Signature => hex::print(out, &tdes::signature(engine, key, start, text)),
-    }
-}
-
-fn answer_text(
-    out: &impl Print,
-    engine: Engine,
-    mode: Mode,
-    key: [u8; 16],
-    start: [u8; 8],
-    field: &[u8],
-) {
-    let mut text = [0u8; 2048];
-    let n = hex::decode(field, &mut text);
-    if n == 0 {
-        if !is_dash(field) {
-            write(out, b"malformed: text\n");
-            return;
+impl<'a> Test<'a> {
+    // The test that a line says: four fields, with a space between them.
+    pub fn of(line: &'a [u8]) -> Result<Test<'a>, Malformed> {
+        let mut fields = line.split(|b| *b == b' ');
+        match (
+            fields.next(),
+            fields.next(),
+            fields.next(),
+            fields.next(),
+            fields.next(),
+        ) {
+            (Some(kind), Some(key), Some(start), Some(text), None) => {
+                let kind = Kind::of(kind)?;
+                Ok(Test {
+                    kind,
+                    key,
+                    start,
+                    text,
+                })
+            }
+            _ => Err(Malformed::Fields),
         }
     }
-    print_triple(out, engine, mode, key, start, &mut text[..n])
-}
 
-fn answer_triple(
-    out: &impl Print,
-    engine: Engine,
-    mode: Mode,
-    key: &[u8],
-    start: &[u8],
-    text: &[u8],
-) {
-    let mut k = [0u8; 16];
-    if hex::decode(key, &mut k) != 16 {
-        write(out, b"malformed: key\n");
-        return;
+    // The key, of 8 bytes or of 16.
+    fn key<const N: usize>(&self) -> Result<[u8; N], Malformed> {
+        fixed(self.key, Malformed::Key)
     }
-    let mut s = [0u8; 8];
-    if !read_start(mode, start, &mut s) {
-        write(out, b"malformed: start\n");
-        return;
-    }
-    answer_text(out, engine, mode, k, s, text)
-}
 
-// Writes the line that answers a test of these fields.
-pub fn answer(
-    out: &impl Print,
-    engine: Engine,
-    kind: &[u8],
-    key: &[u8],
-    start: &[u8],
-    text: &[u8],
-) {
-    let k = kind_of(kind);
-    match k {
-        Kind::Des(decipher, times) => answer_des(out, engine, decipher, times, key, start, text),
-        Kind::Triple(mode) => answer_triple(out, engine, mode, key, start, text),
-        Kind::Unknown => {
-            write(out, b"malformed: kind\n");
+    // The start value.
+    fn start(&self) -> Result<[u8; 8], Malformed> {
+        fixed(self.start, Malformed::Start)
+    }
+
+    // A dash stands where a kind takes no start value.
+    fn no_start(&self) -> Result<(), Malformed> {
+        match self.start {
+            b"-" => Ok(()),
+            _ => Err(Malformed::Start),
+        }
+    }
+
+    // The bytes that the text says, in the room; a dash says none.
+    fn text<'r>(&self, room: &'r mut [u8; ROOM]) -> Result<&'r mut [u8], Malformed> {
+        match self.text {
+            b"-" => Ok(&mut room[..0]),
+            b"" => Err(Malformed::Text),
+            digits => {
+                let text = room.get_mut(..digits.len() / 2).ok_or(Malformed::Text)?;
+                hex::decode_to_slice(digits, text).map_err(|_| Malformed::Text)?;
+                Ok(text)
+            }
+        }
+    }
+
+    // A DES block, so many times: NIST SP 800-17's inner loop.
+    fn des(&self, engine: Engine, decipher: bool, times: usize) -> Result<[u8; 8], Malformed> {
+        let key = self.key()?;
+        self.no_start()?;
+        let mut block = fixed(self.text, Malformed::Text)?;
+        for _ in 0..times {
+            // Tried without `next`: no proof covers a call whose result is laid over an array that it reads.
+            let next = tdes::des_block(engine, key, decipher, block);
+            block = next;
+        }
+        Ok(block)
+    }
+
+    // What the engine makes of the test, in the room.
+    pub fn run<'r>(&self, engine: Engine, room: &'r mut [u8; ROOM]) -> Result<&'r [u8], Malformed> {
+        match self.kind {
+            Kind::Des(decipher, times) => {
+                let block = self.des(engine, decipher, times)?;
+                room[..8].copy_from_slice(&block);
+                Ok(&room[..8])
+            }
+            Kind::Ecb(decipher) => {
+                let key = self.key()?;
+                self.no_start()?;
+                let text = self.text(room)?;
+                tdes::ecb(engine, key, decipher, text);
+                Ok(text)
+            }
+            Kind::Cbc(decipher) => {
+                let key = self.key()?;
+                let start = self.start()?;
+                let text = self.text(room)?;
+                if decipher {
+                    tdes::cbc_decipher(engine, key, start, text);
+                } else {
+                    tdes::cbc_encipher(engine, key, start, text);
+                }
+                Ok(text)
+            }
+            Kind::Signature => {
+                let signature = tdes::signature(
+                    engine,
+                    self.key()?,
+                    self.start()?,
+                    self.text(room)?,
+                );
+                room[..8].copy_from_slice(&signature);
+                Ok(&room[..8])
+            }
         }
     }
 }

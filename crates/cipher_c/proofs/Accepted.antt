@@ -2,11 +2,9 @@
 use mathlib.Core.Path.{◌≡◌, ap, ◌∙◌}
 use mathlib.Core.List.{List}
 use Prim.Native.Nat.{ℕ, ◌*◌, ◌/◌, ◌≤◌}
-use native.Mathlib.Omega.{arith}
 use borrow.Author.Tests.{eq-eqb, le-ltb}
 use lib.ListN.{length}
 use Rattle.octets.specs.Bytes.{field, paste}
-use Rattle.octets.proofs.Parts.{field-part, part-all}
 use Rattle.des_spec.specs.Des.{encipher, des}
 use Rattle.des_spec.specs.Modes.{blocks, cbc_text, signature}
 use Rattle.des_spec.proofs.Lengths.{length-des}
@@ -15,17 +13,10 @@ use Rattle.tdes.specs.Single.{des_text, des_each}
 use Rattle.tdes.proofs.Each.{length-each_text}
 use Rattle.cipher_c.specs.Calls.{called, cbc_call, signature_call, des_call, des_each_call}
 
--- a list is its field of all its bytes
-whole : (l : List ℕ) (n : ℕ) → length l ≡ n → field l 0 n ≡ l
-whole l n e = field-part l 0 n (omega arith) ∙ part-all l n (omega arith)
-
-module _ (engine : ℕ) (key start : List ℕ) (k s : List ℕ) (n : engine ≤ 1) (ek : length key ≡ 16) (es : length start ≡ 8) (fk : k ≡ field key 0 16)
-    (fs : s ≡ field start 0 8) where
+module _ (engine : ℕ) (key start : List ℕ) (k s : List ℕ) (n : engine ≤ 1) (ek : length key ≡ 16) (es : length start ≡ 8) (k' : k ≡ key) (s' : s ≡ start) where
   pub cbc-called : (text area : List ℕ) → area ≡ cbc_text encipher k s text → called (length area / 8) area ≡ cbc_call engine key start text
   unfolding cbc_call blocks
   cbc-called text area e =
-      let k' : k ≡ key = fk ∙ whole key 16 ek in
-      let s' : s ≡ start = fs ∙ whole start 8 es in
       let l : length area ≡ length text = ap length e ∙ length-cbc_text encipher k s text (ap length s' ∙ es) in
       rw (l, e, k', s', le-ltb 1 engine n, eq-eqb (length key) 16 ek, eq-eqb (length start) 8 es)
 
@@ -33,15 +24,12 @@ module _ (engine : ℕ) (key start : List ℕ) (k s : List ℕ) (n : engine ≤ 
       → called 8 area ≡ signature_call engine key start text out
   unfolding signature_call
   signature-called text out mac area h e a =
-      let k' : k ≡ key = fk ∙ whole key 16 ek in
-      let s' : s ≡ start = fs ∙ whole start 8 es in
       rw (a, e, k', s', le-ltb 1 engine n, eq-eqb (length key) 16 ek, eq-eqb (length start) 8 es, le-ltb (length out) 8 h)
 
-pub des-called : (engine : ℕ) (key k text area : List ℕ) → engine ≤ 1 → length key ≡ 8 → k ≡ field key 0 8 → area ≡ des_text encipher k text
+pub des-called : (engine : ℕ) (key k text area : List ℕ) → engine ≤ 1 → length key ≡ 8 → k ≡ key → area ≡ des_text encipher k text
     → called (length area / 8) area ≡ des_call engine key text
 unfolding des_call des_text blocks
-des-called engine key k text area n ek fk e =
-    let k' : k ≡ key = fk ∙ whole key 8 ek in
+des-called engine key k text area n ek k' e =
     let l : length area ≡ length text = ap length e ∙ length-each_text (λ (i : ℕ). des encipher k) (λ i. length-des encipher k) text in
     rw (l, e, k', le-ltb 1 engine n, eq-eqb (length key) 8 ek)
 

@@ -2,17 +2,20 @@
 // of any length. The engine is a number: 0 plain, 1 quick. Another number, or a wrong length, is answered 0 and changes nothing.
 #![tactic(auto)]
 
-ghost use Rattle.std.specs.Prelude.{◌≡◌};
+ghost use Rattle.std.specs.Prelude.{◌≡◌, ◌<◌, ◌≤◌, length, MatchOption};
 ghost use Rattle.cipher_c.specs.Calls.{called, cbc_call, signature_call, des_call, des_each_call};
 
 use tdes::Engine;
 
-// The engine of a number.
-fn engine_of(number: u32) -> Engine {
-    if number == 0 {
-        return Engine::Plain;
+// The engine of a number, if it has one.
+fn engine_of(number: u32) -> Option<Engine>
+    ensures { MatchOption result (1 < number) (λ engine. number ≤ 1) }
+{
+    match number {
+        0 => Some(Engine::Plain),
+        1 => Some(Engine::Quick),
+        _ => None,
     }
-    Engine::Quick
 }
 
 // CBC over the whole blocks of `text`, in place. Answers how many they are; 0 where the key hasn't 16 bytes or the start value 8.
@@ -20,18 +23,11 @@ fn engine_of(number: u32) -> Engine {
 pub extern "C" fn cipher_cbc(engine: u32, key: &[u8], start: &[u8], text: &mut [u8]) -> usize
     ensures { called result text.new ≡ cbc_call engine key.now start.now text.old }
 {
-    if 1 < engine {
+    let (Some(engine), Ok(key), Ok(start)) = (engine_of(engine), key.try_into(), start.try_into())
+    else {
         return 0;
-    }
-    if key.len() != 16 {
-        return 0;
-    }
-    if start.len() != 8 {
-        return 0;
-    }
-    let k = octets::part16(key, 0);
-    let s = octets::part8(start, 0);
-    tdes::cbc_encipher(engine_of(engine), k, s, text);
+    };
+    tdes::cbc_encipher(engine, key, start, text);
     text.len() / 8
 }
 
@@ -48,21 +44,14 @@ pub extern "C" fn cipher_signature(
     ensures { called result out.new
         ≡ signature_call engine key.now start.now text.now out.old }
 {
-    if 1 < engine {
+    let (Some(engine), Ok(key), Ok(start)) = (engine_of(engine), key.try_into(), start.try_into())
+    else {
         return 0;
-    }
-    if key.len() != 16 {
-        return 0;
-    }
-    if start.len() != 8 {
-        return 0;
-    }
+    };
     if out.len() < 8 {
         return 0;
     }
-    let k = octets::part16(key, 0);
-    let s = octets::part8(start, 0);
-    let mac = tdes::signature(engine_of(engine), k, s, text);
+    let mac = tdes::signature(engine, key, start, text);
     octets::paste(out, 0, &mac);
     8
 }
@@ -72,14 +61,10 @@ pub extern "C" fn cipher_signature(
 pub extern "C" fn cipher_des(engine: u32, key: &[u8], text: &mut [u8]) -> usize
     ensures { called result text.new ≡ des_call engine key.now text.old }
 {
-    if 1 < engine {
+    let (Some(engine), Ok(key)) = (engine_of(engine), key.try_into()) else {
         return 0;
-    }
-    if key.len() != 8 {
-        return 0;
-    }
-    let k = octets::part8(key, 0);
-    tdes::des_ecb(engine_of(engine), k, false, text);
+    };
+    tdes::des_ecb(engine, key, false, text);
     text.len() / 8
 }
 
@@ -88,12 +73,12 @@ pub extern "C" fn cipher_des(engine: u32, key: &[u8], text: &mut [u8]) -> usize
 pub extern "C" fn cipher_des_each(engine: u32, keys: &[u8], text: &mut [u8]) -> usize
     ensures { called result text.new ≡ des_each_call engine keys.now text.old }
 {
-    if 1 < engine {
+    let Some(engine) = engine_of(engine) else {
         return 0;
-    }
+    };
     if keys.len() != 8 * (text.len() / 8) {
         return 0;
     }
-    tdes::des_each(engine_of(engine), keys, false, text);
+    tdes::des_each(engine, keys, false, text);
     text.len() / 8
 }

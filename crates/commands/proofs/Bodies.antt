@@ -12,7 +12,7 @@ use lib.ListN.{length}
 use Rattle.octets.specs.Bytes.{part, field}
 use Rattle.octets.proofs.Parts.{field-part}
 use Rattle.apdu.specs.declared.parsing.Apdu.{Apdu}
-use Rattle.apdu.specs.declared.parsing.Parsed.TheVariants.{Command}
+use Rattle.std.specs.Prelude.{Ok}
 use Rattle.apdu.specs.declared.instructions.Plain.{Plain}
 use Rattle.apdu.specs.declared.instructions.Plain.TheVariants.{Select, InitializeUpdate, ExternalAuthenticate, VerifyPin, GetData, ReadRecord}
 use Rattle.apdu.specs.declared.instructions.Signed.{Signed}
@@ -95,7 +95,7 @@ signed-least g n e = least g (signed-size g n e)
 
 -- ---- the data
 
-module _ (c : List ℕ) (a : Apdu) (e : parsed c ≡ Command a) where
+module _ (c : List ℕ) (a : Apdu) (e : parsed c ≡ Ok a) where
   -- all of it, of a fixed length
   pub plain_body : (n : ℕ) → 0 < n → a.lc ≡ n → field c 5 n ≡ data_of c a.lc
   plain_body n p q = let z : n ≡ a.lc = sym q in rw z (field-part c 5 a.lc (data_within c a e (omega (arith, p, q))))

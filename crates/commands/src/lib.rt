@@ -3,6 +3,7 @@
 
 mod dispatch;
 mod plain;
+mod request;
 mod signed;
 
 pub use dispatch::respond;

@@ -9,6 +9,7 @@ use native.Mathlib.Omega.{arith}
 use borrow.Author.Tests.{eqb-true, eqb-false}
 use lib.Dec.{eqb}
 use lib.ListN.{length, get_or, length-append}
+use Rattle.std.specs.Prelude.{Result, Ok, Err}
 use Rattle.octets.specs.Bytes.{byte_at}
 use Rattle.octets.proofs.Rules.{pick_holds}
 use Rattle.card.specs.declared.head.Head.{Head}
@@ -20,19 +21,19 @@ use Rattle.session.specs.declared.Pending.TheVariants.{Update}
 use Rattle.session.specs.declared.Session.{Session}
 use Rattle.session.specs.Transitions.{ended}
 use Rattle.apdu.specs.declared.parsing.Apdu.{Apdu}
-use Rattle.apdu.specs.declared.parsing.Parsed.{Parsed}
-use Rattle.apdu.specs.declared.parsing.Parsed.TheVariants.{Command, WrongLength}
 use Rattle.apdu.specs.declared.instructions.Plain.{Plain}
 use Rattle.apdu.specs.declared.instructions.Plain.TheVariants.{Select, ExternalAuthenticate}
 use Rattle.apdu.specs.declared.instructions.Signed.{Signed}
 use Rattle.apdu.specs.declared.instructions.Signed.TheVariants.{PutKey, PinChange, StoreData, InitializeTransaction, CompleteTransaction, PutData}
 use Rattle.apdu.specs.declared.instructions.Instruction.{Instruction}
-use Rattle.apdu.specs.declared.instructions.Instruction.TheVariants.{IsPlain, IsSigned, UnknownClass, UnknownInstruction}
+use Rattle.apdu.specs.declared.instructions.Instruction.TheVariants.{IsPlain, IsSigned}
+use Rattle.apdu.specs.declared.refusals.Refusal.{Refusal}
+use Rattle.apdu.specs.Refusals.{refusal_word}
 use Rattle.apdu.specs.Parsing.{headed, parsed, data_of}
 use Rattle.apdu.specs.Instructions.{instruction}
 use Rattle.apdu.specs.Early.{plain_status, signed_status}
-use Rattle.apdu.proofs.Table.{SignedCode, PlainP1P2, SignedP1P2, Logged, PlainLc, SignedLc, instructions}
-use Rattle.apdu.proofs.Shapes.{header, header_is, Shape, four, five, full, by_shape, parsed_bare, parsed_full}
+use Rattle.apdu.proofs.Table.{SignedCode, PlainP1P2, SignedP1P2, Logged, PlainLc, SignedLc, instructions, unknown}
+use Rattle.apdu.proofs.Shapes.{header, header_is, Shape, four, five, full, refused_length, by_shape, parsed_bare, parsed_full}
 use Rattle.apdu.proofs.Order.{Decides, unselected, parameters, recorded, long, passed, Fits, Selected, fits, goes_on_lem, plain-order, signed-order}
 use Rattle.commands_spec.specs.declared.outcome.Outcome.{Outcome}
 use Rattle.commands_spec.specs.Outcomes.{refused, decided}
@@ -95,48 +96,43 @@ signed-long CompleteTransaction lc e = omega arith
 signed-long PutData lc e = e
 
 -- an instruction is one command's
-pub one_plain : (i : Instruction) (p q : Plain) → i ≡ IsPlain p → i ≡ IsPlain q → p ≡ q
+pub one_plain : (i : Result Instruction Refusal) (p q : Plain) → i ≡ Ok (IsPlain p) → i ≡ Ok (IsPlain q) → p ≡ q
 one_plain i p q e f = cc
 
-one_signed : (i : Instruction) (g k : Signed) → i ≡ IsSigned g → i ≡ IsSigned k → g ≡ k
+one_signed : (i : Result Instruction Refusal) (g k : Signed) → i ≡ Ok (IsSigned g) → i ≡ Ok (IsSigned k) → g ≡ k
 one_signed i g k e f = cc
 
 -- and not both a plain and a signed one's
-pub plain_or_signed : (i : Instruction) (p : Plain) (g : Signed) → i ≡ IsPlain p → i ≡ IsSigned g → ⊥
+pub plain_or_signed : (i : Result Instruction Refusal) (p : Plain) (g : Signed) → i ≡ Ok (IsPlain p) → i ≡ Ok (IsSigned g) → ⊥
 plain_or_signed i p g e f = let z : ◌≡◌ {A = ℕ} 0 1 = cc in omega arith
 
-no_plain : (i : Instruction) (p : Plain) → i ≡ IsPlain p → (i ≡ UnknownClass) ⊎ (i ≡ UnknownInstruction) → ⊥
-no_plain i p e (inl f) = let z : ◌≡◌ {A = ℕ} 0 1 = cc in omega arith
-no_plain i p e (inr f) = let z : ◌≡◌ {A = ℕ} 0 1 = cc in omega arith
-
-no_signed : (i : Instruction) (g : Signed) → i ≡ IsSigned g → (i ≡ UnknownClass) ⊎ (i ≡ UnknownInstruction) → ⊥
-no_signed i g e (inl f) = let z : ◌≡◌ {A = ℕ} 0 1 = cc in omega arith
-no_signed i g e (inr f) = let z : ◌≡◌ {A = ℕ} 0 1 = cc in omega arith
+unknown_none : (i : Result Instruction Refusal) (k : Instruction) (x : Refusal) → i ≡ Ok k → i ≡ Err x → ⊥
+unknown_none i k x e f = let z : ◌≡◌ {A = ℕ} 0 1 = cc in omega arith
 
 module _ (s : Session) (command : List ℕ) where
   -- the instruction of the first two bytes
-  abbrev pub I : Instruction
+  abbrev pub I : Result Instruction Refusal
   I = instruction (byte_at command 0) (byte_at command 1)
 
   -- that of each of them
-  pub select_names : Selects command → I ≡ IsPlain Select
-  select_names x = (instructions (IsPlain Select) (byte_at command 0) (byte_at command 1)).1 (x.cla, x.ins)
+  pub select_names : Selects command → I ≡ Ok (IsPlain Select)
+  select_names x = (instructions (Ok (IsPlain Select)) (byte_at command 0) (byte_at command 1)).1 (x.cla, x.ins)
 
-  pub authenticate_names : (set : Set) → Authenticates s command set → I ≡ IsPlain ExternalAuthenticate
-  authenticate_names set x = (instructions (IsPlain ExternalAuthenticate) (byte_at command 0) (byte_at command 1)).1 (x.cla, x.ins)
+  pub authenticate_names : (set : Set) → Authenticates s command set → I ≡ Ok (IsPlain ExternalAuthenticate)
+  authenticate_names set x = (instructions (Ok (IsPlain ExternalAuthenticate)) (byte_at command 0) (byte_at command 1)).1 (x.cla, x.ins)
 
-  pub sign_names : (g : Signed) → Signs s command g → I ≡ IsSigned g
-  sign_names g x = (instructions (IsSigned g) (byte_at command 0) (byte_at command 1)).1 x.code
+  pub sign_names : (g : Signed) → Signs s command g → I ≡ Ok (IsSigned g)
+  sign_names g x = (instructions (Ok (IsSigned g)) (byte_at command 0) (byte_at command 1)).1 x.code
 
   -- a command that names none of them
-  unnamed : (I ≡ IsPlain Select → ⊥) → (I ≡ IsPlain ExternalAuthenticate → ⊥) → ((g : Signed) → I ≡ IsSigned g → ⊥) → Untouched s command
+  unnamed : (I ≡ Ok (IsPlain Select) → ⊥) → (I ≡ Ok (IsPlain ExternalAuthenticate) → ⊥) → ((g : Signed) → I ≡ Ok (IsSigned g) → ⊥) → Untouched s command
   unnamed a b d =
       record { selects = λ x. a (select_names x); authenticates = λ set x. b (authenticate_names set x); signs = λ g x. d g (sign_names g x) }
 
   -- each has the length that step 1 asks for
-  formed_parsed : Formed command → parsed command ≡ WrongLength → ⊥
-  formed_parsed (bare h k) e = let f = parsed_bare command h k in let z : ◌≡◌ {A = ℕ} 0 1 = cc in omega arith
-  formed_parsed (filled h k l) e = let f = parsed_full command h k l in let z : ◌≡◌ {A = ℕ} 0 1 = cc in omega arith
+  formed_parsed : (x : Refusal) → Formed command → parsed command ≡ Err x → ⊥
+  formed_parsed x (bare h k) e = let f = parsed_bare command h k in let z : ◌≡◌ {A = ℕ} 0 1 = cc in omega arith
+  formed_parsed x (filled h k l) e = let f = parsed_full command h k l in let z : ◌≡◌ {A = ℕ} 0 1 = cc in omega arith
 
   signed_formed : (g : Signed) → Signs s command g → Formed command
   signed_formed g x = filled (omega (arith, signed-long g (byte_at command 4) x.lc)) x.least x.most
@@ -144,12 +140,12 @@ module _ (s : Session) (command : List ℕ) where
   authenticate_formed : (set : Set) → Authenticates s command set → Formed command
   authenticate_formed set x = let e : byte_at command 4 ≡ 16 = x.lc in filled (omega arith) (omega (arith, x.least)) (omega (arith, x.most))
 
-  wrong_untouched : parsed command ≡ WrongLength → Untouched s command
-  wrong_untouched e =
+  wrong_untouched : (y : Refusal) → parsed command ≡ Err y → Untouched s command
+  wrong_untouched y e =
       record {
-        selects = λ x. formed_parsed x.formed e;
-        authenticates = λ set x. formed_parsed (authenticate_formed set x) e;
-        signs = λ g x. formed_parsed (signed_formed g x) e;
+        selects = λ x. formed_parsed y x.formed e;
+        authenticates = λ set x. formed_parsed y (authenticate_formed set x) e;
+        signs = λ g x. formed_parsed y (signed_formed g x) e;
       }
 
   -- Lc is byte 5
@@ -176,8 +172,9 @@ module _ (s : Session) (command : List ℕ) where
       let q = shape_lc lc (full body le h l m e) h in
       filled (omega (arith, q.0)) (omega (arith, q.0, q.1)) (omega (arith, q.0, q.2))
 
-  unknown_untouched : (I ≡ UnknownClass) ⊎ (I ≡ UnknownInstruction) → Untouched s command
-  unknown_untouched u = unnamed (λ e. no_plain I Select e u) (λ e. no_plain I ExternalAuthenticate e u) (λ g e. no_signed I g e u)
+  unknown_untouched : (x : Refusal) → I ≡ Err x → Untouched s command
+  unknown_untouched x u =
+      unnamed (λ e. unknown_none I (IsPlain Select) x e u) (λ e. unknown_none I (IsPlain ExternalAuthenticate) x e u) (λ g e. unknown_none I (IsSigned g) x e u)
 
 -- the status words of steps 1 to 5
 abbrev pub early_words : List ℕ
@@ -193,7 +190,7 @@ early_word (passed s p r l) h = absurd (h refl)
 
 -- a plain command past step 5
 pub record PlainPast (c : Card) (s : Session) (command : List ℕ) (p : Plain) (lc : ℕ) : Type 0 where
-  pub names : instruction (byte_at command 0) (byte_at command 1) ≡ IsPlain p
+  pub names : instruction (byte_at command 0) (byte_at command 1) ≡ Ok (IsPlain p)
   pub formed : Shape command (header command lc)
   pub fit : Fits (Selected p s.selected) (PlainP1P2 p (byte_at command 2) (byte_at command 3)) (Logged p (byte_at command 2) c.head.fixed.logsize) (PlainLc p lc)
 
@@ -209,7 +206,7 @@ module _ (c : Card) (s : Session) (command random : List ℕ) (P : Outcome → T
   R = get_or c.log (asked command) void
 
   -- a plain command that steps 3 to 5 refuse is neither SELECT nor EXTERNAL AUTHENTICATE past them
-  plain-refused : (p : Plain) (lc : ℕ) → I s command ≡ IsPlain p → parsed command ≡ headed command lc
+  plain-refused : (p : Plain) (lc : ℕ) → I s command ≡ Ok (IsPlain p) → parsed command ≡ headed command lc
       → (plain_status p s.selected (header command lc) H.fixed.logsize ≡ 0x9000 → ⊥) → Untouched s command
   plain-refused p lc e f n =
       record {
@@ -233,7 +230,7 @@ module _ (c : Card) (s : Session) (command random : List ℕ) (P : Outcome → T
           m (rw q (goes_on_lem (plain-order ExternalAuthenticate s.selected (header command lc) H.fixed.logsize)
           (record { selected = x.selected; parameters = (x.p1, x.p2); recorded = tt; length = l })))
 
-  signed-refused : (g : Signed) (lc : ℕ) → I s command ≡ IsSigned g → parsed command ≡ headed command lc
+  signed-refused : (g : Signed) (lc : ℕ) → I s command ≡ Ok (IsSigned g) → parsed command ≡ headed command lc
       → (signed_status g s.selected (header command lc) ≡ 0x9000 → ⊥) → Untouched s command
   signed-refused g lc e f n =
       record {
@@ -249,7 +246,7 @@ module _ (c : Card) (s : Session) (command random : List ℕ) (P : Outcome → T
           n (rw (q, l) (goes_on_lem (signed-order k s.selected (header command (byte_at command 4)))
           (record { selected = x.selected; parameters = x.parameters; recorded = tt; length = x.lc })))
 
-  signed_passed : (g : Signed) (lc : ℕ) → I s command ≡ IsSigned g → parsed command ≡ headed command lc
+  signed_passed : (g : Signed) (lc : ℕ) → I s command ≡ Ok (IsSigned g) → parsed command ≡ headed command lc
       → signed_status g s.selected (header command lc) ≡ 0x9000 → P (authorized g H s (header command lc) command)
   signed_passed g lc e f w =
       let t = fits (signed-order g s.selected (header command lc)) w in
@@ -258,7 +255,7 @@ module _ (c : Card) (s : Session) (command random : List ℕ) (P : Outcome → T
       let q : byte_at command 4 ≡ lc = o.0 in
       rw (← q)
       (signed g (record {
-        code = (instructions (IsSigned g) (byte_at command 0) (byte_at command 1)).0 e;
+        code = (instructions (Ok (IsSigned g)) (byte_at command 0) (byte_at command 1)).0 e;
         parameters = t.parameters;
         lc = rw q t.length;
         least = rw q o.1;
@@ -266,10 +263,10 @@ module _ (c : Card) (s : Session) (command random : List ℕ) (P : Outcome → T
         selected = t.selected;
       }))
 
-  instruction_holds : (lc : ℕ) → parsed command ≡ headed command lc → (i : Instruction) → I s command ≡ i
+  instruction_holds : (lc : ℕ) → parsed command ≡ headed command lc → (i : Result Instruction Refusal) → I s command ≡ i
       → P (on_instruction i H R s (header command lc) command random)
   unfolding on_instruction decided is_one
-  instruction_holds lc f (IsPlain p) e =
+  instruction_holds lc f (Ok (IsPlain p)) e =
       pick_holds P (eqb (plain_status p s.selected (header command lc) H.fixed.logsize) 0x9000) _ _
       (λ t.
       plain p lc (record {
@@ -280,21 +277,24 @@ module _ (c : Card) (s : Session) (command random : List ℕ) (P : Outcome → T
       (λ t.
       let n = eqb-false _ _ t in
       refusal _ (early_word (plain-order p s.selected (header command lc) H.fixed.logsize) n) (plain-refused p lc e f n))
-  instruction_holds lc f (IsSigned g) e =
+  instruction_holds lc f (Ok (IsSigned g)) e =
       pick_holds P (eqb (signed_status g s.selected (header command lc)) 0x9000) _ _
       (λ t. signed_passed g lc e f (eqb-true _ _ t))
       (λ t.
       let n = eqb-false _ _ t in
       refusal _ (early_word (signed-order g s.selected (header command lc)) n) (signed-refused g lc e f n))
-  instruction_holds lc f UnknownClass e = refusal 0x6E00 refl (unknown_untouched s command (inl e))
-  instruction_holds lc f UnknownInstruction e = refusal 0x6D00 refl (unknown_untouched s command (inr e))
+  instruction_holds lc f (Err x) e =
+      let u = unknown_untouched s command x e in
+      unknown (λ (y : Refusal). P (refused H (ended s) (refusal_word y))) (refusal 0x6E00 refl u) (refusal 0x6D00 refl u)
+      (byte_at command 0) (byte_at command 1) x e
 
-  parsed_holds : (x : Parsed) → parsed command ≡ x → P (on_parsed x H R s command random)
+  parsed_holds : (x : Result Apdu Refusal) → parsed command ≡ x → P (on_parsed x H R s command random)
   unfolding on_parsed is_one
-  parsed_holds (Command a) e =
+  parsed_holds (Ok a) e =
       let q = header_is command a e in
-      rw q (instruction_holds a.lc (e ∙ ap Command q) (I s command) refl)
-  parsed_holds WrongLength e = refusal 0x6700 refl (wrong_untouched s command e)
+      rw q (instruction_holds a.lc (e ∙ ap Ok q) (I s command) refl)
+  parsed_holds (Err x) e =
+      refused_length (λ (y : Refusal). P (refused H (ended s) (refusal_word y))) (refusal 0x6700 refl (wrong_untouched s command x e)) command x e
 
   -- what holds of each way holds of a command's outcome
   pub past_holds : P (respond c s command random)

@@ -10,6 +10,7 @@ use borrow.Author.Tests.{eqb-true, eqb-false, not-true, not-false}
 use lib.Dec.{eqb}
 use lib.ListN.{length, get_or, take, length-append}
 use lib.Seq.{take_at}
+use Rattle.std.specs.Prelude.{Ok}
 use Rattle.octets.specs.Bytes.{zeros, byte_at, part, same}
 use Rattle.octets.specs.Buffers.{content}
 use Rattle.octets.proofs.Equality.{equal_same, same_equal, differ_same}
@@ -311,7 +312,7 @@ module _ (c : Card) (s : Session) (command random : List ℕ) where
       }
 
   -- a plain command is none of the signed ones, and SELECT or EXTERNAL AUTHENTICATE only by its name
-  apart : (p : Plain) → I s command ≡ IsPlain p → (p ≡ Select → ⊥) → (p ≡ ExternalAuthenticate → ⊥) → Untouched s command
+  apart : (p : Plain) → I s command ≡ Ok (IsPlain p) → (p ≡ Select → ⊥) → (p ≡ ExternalAuthenticate → ⊥) → Untouched s command
   apart p e n q =
       record {
         selects = λ y. n (one_plain (I s command) p Select e (select_names s command y));
@@ -322,14 +323,14 @@ module _ (c : Card) (s : Session) (command random : List ℕ) where
   -- the bytes of the two that touch it
   select-bytes : (lc : ℕ) → PlainPast c s command Select lc → Selects command
   select-bytes lc f =
-      let k = (instructions (IsPlain Select) (byte_at command 0) (byte_at command 1)).0 f.names in
+      let k = (instructions (Ok (IsPlain Select)) (byte_at command 0) (byte_at command 1)).0 f.names in
       let p = f.fit.parameters in
       record { cla = k.0; ins = k.1; p1 = p.0; p2 = p.1; formed = shape_formed s command lc f.formed }
 
   authenticate_bytes : (lc : ℕ) → PlainPast c s command ExternalAuthenticate lc → (set : Set) → s.pending ≡ Update set → Authenticates s command set
   authenticate_bytes lc f set e =
       let l : lc ≡ 16 = f.fit.length in
-      let k = (instructions (IsPlain ExternalAuthenticate) (byte_at command 0) (byte_at command 1)).0 f.names in
+      let k = (instructions (Ok (IsPlain ExternalAuthenticate)) (byte_at command 0) (byte_at command 1)).0 f.names in
       let p = f.fit.parameters in
       let q = shape_lc s command lc f.formed (omega arith) in
       record {
@@ -478,14 +479,14 @@ module _ (c : Card) (s : Session) (command random : List ℕ) where
   early_told t w j = record { selects = λ x y e. absurd (select_early w j e); authenticates = λ x y e. absurd (authenticate_early w j e) }
 
   -- any other command
-  elsewhere : (o : Outcome) → (I s command ≡ IsPlain Select → ⊥) → (I s command ≡ IsPlain ExternalAuthenticate → ⊥) → B o
+  elsewhere : (o : Outcome) → (I s command ≡ Ok (IsPlain Select) → ⊥) → (I s command ≡ Ok (IsPlain ExternalAuthenticate) → ⊥) → B o
   elsewhere o a b =
       record {
-        selects = λ x y e. absurd (a ((instructions (IsPlain Select) (byte_at command 0) (byte_at command 1)).1 (x, y)));
-        authenticates = λ x y e. absurd (b ((instructions (IsPlain ExternalAuthenticate) (byte_at command 0) (byte_at command 1)).1 (x, y)));
+        selects = λ x y e. absurd (a ((instructions (Ok (IsPlain Select)) (byte_at command 0) (byte_at command 1)).1 (x, y)));
+        authenticates = λ x y e. absurd (b ((instructions (Ok (IsPlain ExternalAuthenticate)) (byte_at command 0) (byte_at command 1)).1 (x, y)));
       }
 
-  another : (p : Plain) → I s command ≡ IsPlain p → (p ≡ Select → ⊥) → (p ≡ ExternalAuthenticate → ⊥) → (o : Outcome) → B o
+  another : (p : Plain) → I s command ≡ Ok (IsPlain p) → (p ≡ Select → ⊥) → (p ≡ ExternalAuthenticate → ⊥) → (o : Outcome) → B o
   another p i n q o = elsewhere o (λ e. n (one_plain (I s command) p Select i e)) (λ e. q (one_plain (I s command) p ExternalAuthenticate i e))
 
   authenticate_told : (lc : ℕ) → PlainPast c s command ExternalAuthenticate lc → (pending : Pending) → s.pending ≡ pending
@@ -494,7 +495,7 @@ module _ (c : Card) (s : Session) (command random : List ℕ) where
   authenticate_told lc f (Update set) e =
       record {
         selects =
-            λ x y h. absurd (two_plain (one_plain (I s command) Select ExternalAuthenticate ((instructions (IsPlain Select) (byte_at command 0) (byte_at command 1)).1 (x, y)) f.names));
+            λ x y h. absurd (two_plain (one_plain (I s command) Select ExternalAuthenticate ((instructions (Ok (IsPlain Select)) (byte_at command 0) (byte_at command 1)).1 (x, y)) f.names));
         authenticates = λ x y h. (set, authenticate_bytes c s command random lc f set e);
       }
   authenticate_told lc f Nothing e = early_told (ended s) 0x6985 refl
@@ -508,7 +509,7 @@ module _ (c : Card) (s : Session) (command random : List ℕ) where
       record {
         selects = λ x y e. select-bytes c s command random lc f;
         authenticates =
-            λ x y h. absurd (two_plain (one_plain (I s command) Select ExternalAuthenticate f.names ((instructions (IsPlain ExternalAuthenticate) (byte_at command 0) (byte_at command 1)).1 (x, y))));
+            λ x y h. absurd (two_plain (one_plain (I s command) Select ExternalAuthenticate f.names ((instructions (Ok (IsPlain ExternalAuthenticate)) (byte_at command 0) (byte_at command 1)).1 (x, y))));
       }
   plain_told InitializeUpdate lc f = another InitializeUpdate f.names (λ e. let z : ◌≡◌ {A = ℕ} 0 1 = cc in omega arith) (λ e. let z : ◌≡◌ {A = ℕ} 0 1 = cc in omega arith) _
   plain_told ExternalAuthenticate lc f = authenticate_told lc f s.pending refl

@@ -6,6 +6,7 @@ use mathlib.Core.Path.{◌≡◌, refl, sym, ap, ◌∙◌}
 use Prim.Native.Nat.{ℕ, ◌≤◌}
 use native.Mathlib.Omega.{arith}
 use lib.ListN.{length}
+use Rattle.std.specs.Prelude.{Ok}
 use Rattle.card.specs.Card.{Card}
 use Rattle.card.specs.Changes.{hot_change}
 use Rattle.session.specs.declared.Session.{Session}
@@ -21,7 +22,7 @@ use Rattle.commands_spec.specs.Respond.{named, respond}
 use Rattle.commands_spec.proofs.Ways.{Way, refuses, mismatch, judges, answers, books, way, own_way, not_refused}
 
 module _ (c : Card) (s : Session) (command : List ℕ) where
-  single : (o : Outcome) → Way c s command o → (named command ≡ IsPlain VerifyPin → o.status ≡ 0x9000 → ⊥) → length (commits_of o) ≤ 1
+  single : (o : Outcome) → Way c s command o → (named command ≡ Ok (IsPlain VerifyPin) → o.status ≡ 0x9000 → ⊥) → length (commits_of o) ≤ 1
   unfolding refused done judged complete_transaction_of decided commits_of changes_of
   single o (refuses w t j e) x = rw e (omega arith)
   single o (mismatch t i e) x = rw e (omega arith)
@@ -30,7 +31,7 @@ module _ (c : Card) (s : Session) (command : List ℕ) where
   single o (answers commits next t answer n q e) x = rw e q.few
   single o (books mac i j e) x = rw (e, j) (omega arith)
 
-  double : (o : Outcome) → Way c s command o → named command ≡ IsPlain VerifyPin → o.status ≡ 0x9000
+  double : (o : Outcome) → Way c s command o → named command ≡ Ok (IsPlain VerifyPin) → o.status ≡ 0x9000
       → commits_of o ≡ hot_change (with_state (tried c.head.state) c.head) ∷ hot_change (with_tries c.head.fixed.maxtries c.head) ∷ []
   unfolding refused done judged commits_of changes_of with_state with_tries own_way is_one refusals
   double o (refuses w t j e) i f = absurd (not_refused c.head t w 0x9000 o j e f refl)
@@ -45,10 +46,10 @@ module _ (c : Card) (s : Session) (command random : List ℕ) where
   O = respond c s command random
 
   -- a cut between two changes is possible in VERIFY PIN with 9000 alone
-  pub one_change : (named command ≡ IsPlain VerifyPin → O.status ≡ 0x9000 → ⊥) → length (commits_of O) ≤ 1
+  pub one_change : (named command ≡ Ok (IsPlain VerifyPin) → O.status ≡ 0x9000 → ⊥) → length (commits_of O) ≤ 1
   one_change = single c s command O (way c s command random)
 
   -- and there the first costs a try
-  pub two_changes : named command ≡ IsPlain VerifyPin → O.status ≡ 0x9000
+  pub two_changes : named command ≡ Ok (IsPlain VerifyPin) → O.status ≡ 0x9000
       → commits_of O ≡ hot_change (with_state (tried c.head.state) c.head) ∷ hot_change (with_tries c.head.fixed.maxtries c.head) ∷ []
   two_changes = double c s command O (way c s command random)

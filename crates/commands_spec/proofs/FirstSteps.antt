@@ -8,6 +8,7 @@ use native.Mathlib.Omega.{arith}
 use borrow.Author.Tests.{le-ltb, lt-ltb, ne_eqb}
 use lib.Dec.{ltb}
 use lib.ListN.{length, get_or}
+use Rattle.std.specs.Prelude.{Ok, Err}
 use Rattle.octets.specs.Choice.{pick}
 use Rattle.octets.specs.Bytes.{byte_at}
 use Rattle.octets.specs.Words.{word}
@@ -19,10 +20,10 @@ use Rattle.session.specs.declared.Pending.TheVariants.{Nothing}
 use Rattle.session.specs.declared.Session.{Session}
 use Rattle.session.specs.Transitions.{ended}
 use Rattle.apdu.specs.declared.parsing.Apdu.{Apdu}
-use Rattle.apdu.specs.declared.parsing.Parsed.TheVariants.{WrongLength}
 use Rattle.apdu.specs.declared.instructions.Plain.{Plain}
 use Rattle.apdu.specs.declared.instructions.Signed.{Signed}
-use Rattle.apdu.specs.declared.instructions.Instruction.TheVariants.{IsPlain, IsSigned, UnknownClass, UnknownInstruction}
+use Rattle.apdu.specs.declared.instructions.Instruction.TheVariants.{IsPlain, IsSigned}
+use Rattle.apdu.specs.declared.refusals.Refusal.TheVariants.{WrongLength, UnknownInstruction, UnknownClass}
 use Rattle.apdu.specs.Parsing.{headed, parsed}
 use Rattle.apdu.specs.Instructions.{instruction}
 use Rattle.apdu.specs.Early.{plain_status, signed_status}
@@ -77,7 +78,7 @@ module _ (c : Card) (s : Session) (command random : List ℕ) where
   counted (bare h k) = rw (lt-ltb (length command) 6 (omega arith)) (parsed_bare command h k)
   counted (filled h k l) = rw (le-ltb (length command) 6 (omega arith)) (parsed_full command h k l)
 
-  unformed : (Formed command → ⊥) → parsed command ≡ WrongLength
+  unformed : (Formed command → ⊥) → parsed command ≡ Err WrongLength
   unformed n =
       (by_shape command).otherwise.1
       (λ a h. n (shape_formed s command a.lc (subst (λ (x : Apdu). Shape command x) (header_is command a (((by_shape command).command a).1 h)) h)))
@@ -94,12 +95,12 @@ module _ (c : Card) (s : Session) (command random : List ℕ) where
 
   unknown_class : Formed command → (Class (byte_at command 0) → ⊥) → Refused s 0x6E00 (respond c s command random)
   unfolding on_instruction
-  unknown_class f n = rw (named f, (instructions UnknownClass (byte_at command 0) (byte_at command 1)).1 n) (refuses 0x6E00)
+  unknown_class f n = rw (named f, (instructions (Err UnknownClass) (byte_at command 0) (byte_at command 1)).1 n) (refuses 0x6E00)
 
   unknown_instruction : Formed command → Class (byte_at command 0) → ((p : Plain) → PlainCode p (byte_at command 0) (byte_at command 1) → ⊥)
       → ((g : Signed) → SignedCode g (byte_at command 0) (byte_at command 1) → ⊥) → Refused s 0x6D00 (respond c s command random)
   unfolding on_instruction
-  unknown_instruction f k p g = rw (named f, (instructions UnknownInstruction (byte_at command 0) (byte_at command 1)).1 (k, p, g)) (refuses 0x6D00)
+  unknown_instruction f k p g = rw (named f, (instructions (Err UnknownInstruction) (byte_at command 0) (byte_at command 1)).1 (k, p, g)) (refuses 0x6D00)
 
   plain-refused : Formed command → (p : Plain) → PlainCode p (byte_at command 0) (byte_at command 1) → (w : ℕ)
       → Decides (Selected p s.selected) (PlainP1P2 p (byte_at command 2) (byte_at command 3)) (Logged p (byte_at command 2) c.head.fixed.logsize) (PlainLc p (data_count command)) w
@@ -108,7 +109,7 @@ module _ (c : Card) (s : Session) (command random : List ℕ) where
   plain-refused f p k w d n =
       let e : plain_status p s.selected (header command (data_count command)) c.head.fixed.logsize ≡ w =
       one_word (plain-order p s.selected (header command (data_count command)) c.head.fixed.logsize) d in
-      rw (named f, (instructions (IsPlain p) (byte_at command 0) (byte_at command 1)).1 k, e, ne_eqb w 0x9000 n) (refuses w)
+      rw (named f, (instructions (Ok (IsPlain p)) (byte_at command 0) (byte_at command 1)).1 k, e, ne_eqb w 0x9000 n) (refuses w)
 
   signed-refused : Formed command → (g : Signed) → SignedCode g (byte_at command 0) (byte_at command 1) → (w : ℕ)
       → Decides (s.selected ≡ true) (SignedP1P2 g (byte_at command 2) (byte_at command 3)) (Unit {0}) (SignedLc g (data_count command)) w
@@ -116,7 +117,7 @@ module _ (c : Card) (s : Session) (command random : List ℕ) where
   unfolding on_instruction decided
   signed-refused f g k w d n =
       let e : signed_status g s.selected (header command (data_count command)) ≡ w = one_word (signed-order g s.selected (header command (data_count command))) d in
-      rw (named f, (instructions (IsSigned g) (byte_at command 0) (byte_at command 1)).1 k, e, ne_eqb w 0x9000 n) (refuses w)
+      rw (named f, (instructions (Ok (IsSigned g)) (byte_at command 0) (byte_at command 1)).1 k, e, ne_eqb w 0x9000 n) (refuses w)
 
   -- for every card, session, command and random bytes
   pub first_steps : FirstSteps c s command (respond c s command random)

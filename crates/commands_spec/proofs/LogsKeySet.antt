@@ -6,6 +6,7 @@ use mathlib.Core.Path.{◌≡◌, refl}
 use Prim.Native.Nat.{ℕ, ◌≤◌}
 use native.Mathlib.Omega.{arith}
 use lib.ListN.{length, get_or, drop, replicate}
+use Rattle.std.specs.Prelude.{Ok}
 use Rattle.octets.specs.Bytes.{zeros, byte_at}
 use Rattle.des_spec.proofs.Signature.{length-signature}
 use Rattle.card.specs.declared.head.KeySet.{KeySet}
@@ -52,7 +53,7 @@ pub complete_names : (c : Card) (s : Session) (command random : List ℕ) → by
     → (respond c s command random).status ≡ 0x9000 → NamesSet s (card_after c s command random)
 unfolding named chained log_record
 complete_names c s command random a b w =
-    let i = (instructions (IsSigned CompleteTransaction) (byte_at command 0) (byte_at command 1)).1 (a, b) in
+    let i = (instructions (Ok (IsSigned CompleteTransaction)) (byte_at command 0) (byte_at command 1)).1 (a, b) in
     let k = completes c s command random i w in
     let l = (open_or_not s.channel.level).with_rmac (complete_passed c.head (chained k.mac s) k.passed).with_rmac in
     let m = (only-complete_moves c s command random).moved i w in

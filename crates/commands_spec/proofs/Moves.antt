@@ -6,6 +6,7 @@ use Prim.Native.Nat.{ℕ, ◌+◌, ◌-◌, ◌≤◌, ◌<◌}
 use native.Mathlib.Omega.{arith}
 use borrow.Author.Tests.{leb-true}
 use lib.ListN.{length, take}
+use Rattle.std.specs.Prelude.{Ok}
 use Rattle.octets.specs.Bytes.{part}
 use Rattle.card.specs.declared.head.Head.{Head}
 use Rattle.card.specs.declared.log.Record.{Record}
@@ -77,7 +78,7 @@ module _ (c : Card) (s : Session) (command : List ℕ) where
       let b = moved-balance s.pending c.head.purse.balance c.head.purse.parameters.maxbalance f.pending f.within in
       rw j (record { is = refl; number = refl; room = f.room; balance = b.0; limit = b.1; log = refl })
 
-  stays : (o : Outcome) → Way c s command o → (named command ≡ IsSigned CompleteTransaction → o.status ≡ 0x9000 → ⊥) → Kept c (afterwards c o)
+  stays : (o : Outcome) → Way c s command o → (named command ≡ Ok (IsSigned CompleteTransaction) → o.status ≡ 0x9000 → ⊥) → Kept c (afterwards c o)
   unfolding refused done judged complete_transaction_of decided commits_of changes_of after changed head_after log_after with_state with_tries with_balance with_purse tried
   stays o (refuses w t j e) x = rw e (record { balance = refl; number = refl; log = refl })
   stays o (mismatch t i e) x = rw e (record { balance = refl; number = refl; log = refl })
@@ -88,8 +89,8 @@ module _ (c : Card) (s : Session) (command : List ℕ) where
 
 -- balance, number and log move together or not at all
 pub record Moves (c : Card) (s : Session) (command : List ℕ) (o : Outcome) (d : Card) : Type 0 where
-  pub moved : named command ≡ IsSigned CompleteTransaction → o.status ≡ 0x9000 → Moved c s.pending (part command 5 16) s.channel.level d
-  pub kept : (named command ≡ IsSigned CompleteTransaction → o.status ≡ 0x9000 → ⊥) → Kept c d
+  pub moved : named command ≡ Ok (IsSigned CompleteTransaction) → o.status ≡ 0x9000 → Moved c s.pending (part command 5 16) s.channel.level d
+  pub kept : (named command ≡ Ok (IsSigned CompleteTransaction) → o.status ≡ 0x9000 → ⊥) → Kept c d
 
 -- of every command
 pub only-complete_moves : (c : Card) (s : Session) (command random : List ℕ)

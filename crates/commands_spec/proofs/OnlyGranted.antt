@@ -7,6 +7,7 @@ use Prim.Native.Nat.{ℕ, ◌-◌, ◌≤◌}
 use native.Mathlib.Omega.{arith}
 use borrow.Author.Tests.{leb-true, eqb-true, not-false, ne_eqb, eq-eqb}
 use lib.Dec.{leb, eqb}
+use Rattle.std.specs.Prelude.{Result, Ok}
 use Rattle.octets.specs.Choice.{pick}
 use Rattle.octets.specs.Bytes.{byte_at}
 use Rattle.octets.specs.Words.{word_at}
@@ -24,6 +25,7 @@ use Rattle.apdu.specs.declared.instructions.Signed.{Signed}
 use Rattle.apdu.specs.declared.instructions.Signed.TheVariants.{PutKey, PinChange, StoreData, InitializeTransaction, CompleteTransaction, PutData}
 use Rattle.apdu.specs.declared.instructions.Instruction.{Instruction}
 use Rattle.apdu.specs.declared.instructions.Instruction.TheVariants.{IsSigned}
+use Rattle.apdu.specs.declared.refusals.Refusal.{Refusal}
 use Rattle.apdu.specs.Parsing.{data_of}
 use Rattle.apdu.specs.Instructions.{instruction, of94}
 use Rattle.apdu.specs.Parameters.{signed_parameters}
@@ -96,7 +98,7 @@ decided_passed w h s o e = go (eqb w 0x9000) refl e
     go true p q = eqb-true w 0x9000 p
     go false p q = q
 
-module _ (c : Card) (s : Session) (command random : List ℕ) (is : named command ≡ IsSigned InitializeTransaction) where
+module _ (c : Card) (s : Session) (command random : List ℕ) (is : named command ≡ Ok (IsSigned InitializeTransaction)) where
   abbrev P : Outcome → Type 0
   P o = o.status ≡ 0x9000 → Granted c s command
 
@@ -108,7 +110,7 @@ module _ (c : Card) (s : Session) (command random : List ℕ) (is : named comman
   unfolding refused
   not_unsigned e = absurd (omega arith)
 
-  other : {A : Type 0} (i : Instruction) → named command ≡ i → (IsSigned InitializeTransaction ≡ i → ⊥) → A
+  other : {A : Type 0} (i : Result Instruction Refusal) → named command ≡ i → (Ok (IsSigned InitializeTransaction) ≡ i → ⊥) → A
   other i e n = absurd (n (sym is ∙ e))
 
   initialize_holds : (lc : ℕ) → Accepted s command InitializeTransaction lc

@@ -8,6 +8,7 @@ use native.Mathlib.Omega.{arith}
 use borrow.Author.Tests.{eqb-true}
 use lib.Dec.{eqb}
 use lib.ListN.{length, take, get_or}
+use Rattle.std.specs.Prelude.{Result, Ok}
 use Rattle.octets.specs.Choice.{pick}
 use Rattle.octets.specs.Bytes.{byte_at}
 use Rattle.card.specs.declared.log.Record.{Record}
@@ -17,10 +18,10 @@ use Rattle.card.specs.Updates.{with_state, with_tries}
 use Rattle.session.specs.declared.Session.{Session}
 use Rattle.session.specs.Transitions.{ended}
 use Rattle.apdu.specs.declared.parsing.Apdu.{Apdu}
-use Rattle.apdu.specs.declared.parsing.Parsed.{Parsed}
 use Rattle.apdu.specs.declared.instructions.Plain.TheVariants.{VerifyPin}
 use Rattle.apdu.specs.declared.instructions.Instruction.{Instruction}
 use Rattle.apdu.specs.declared.instructions.Instruction.TheVariants.{IsPlain}
+use Rattle.apdu.specs.declared.refusals.Refusal.{Refusal}
 use Rattle.apdu.specs.Parsing.{headed, parsed, data_of}
 use Rattle.commands_spec.specs.declared.outcome.Commits.{Commits}
 use Rattle.commands_spec.specs.declared.outcome.Commits.TheVariants.{Unchanged, Hot, HotAndRecord, HotAndCold, HotTwice}
@@ -62,23 +63,23 @@ module _ (c : Card) (s : Session) (P : Outcome → Outcome → Type 0)
   verify_pair a b = decided_pair _ (ended s) _ _ (λ e. judgement _ _ (verify_tries _ _ _ _ e))
 
   module _ (a b random : List ℕ) (q r : Record) where
-    instruction_pair : (x : Apdu) (i : Instruction) → i ≡ IsPlain VerifyPin
+    instruction_pair : (x : Apdu) (i : Result Instruction Refusal) → i ≡ Ok (IsPlain VerifyPin)
         → P (on_instruction i c.head q s x a random) (on_instruction i c.head r s x b random)
     unfolding on_instruction plain_of
     instruction_pair x i e = rw e (decided_pair _ (ended s) _ _ (λ h. verify_pair (data_of a x.lc) (data_of b x.lc)))
 
-    parsed_pair : (n : ℕ) → named a ≡ IsPlain VerifyPin → P (on_parsed (headed a n) c.head q s a random) (on_parsed (headed a n) c.head r s b random)
+    parsed_pair : (n : ℕ) → named a ≡ Ok (IsPlain VerifyPin) → P (on_parsed (headed a n) c.head q s a random) (on_parsed (headed a n) c.head r s b random)
     unfolding on_parsed named
     parsed_pair n e = instruction_pair (record { cla = byte_at a 0; ins = byte_at a 1; p1 = byte_at a 2; p2 = byte_at a 3; lc = n }) (named a) e
 
-  pub pin_pair : (a b random : List ℕ) → named a ≡ IsPlain VerifyPin → length a ≡ length b → ((k : ℕ) → k < 5 → byte_at a k ≡ byte_at b k)
+  pub pin_pair : (a b random : List ℕ) → named a ≡ Ok (IsPlain VerifyPin) → length a ≡ length b → ((k : ℕ) → k < 5 → byte_at a k ≡ byte_at b k)
       → P (respond c s a random) (respond c s b random)
   unfolding respond respond_to on_parsed
   pin_pair a b random e n f =
       let q = get_or c.log (asked a) void in
       let r = get_or c.log (asked b) void in
       rw (parsed-same a b n f)
-      (parsed_holds a (λ (x : Parsed). P (on_parsed x c.head q s a random) (on_parsed x c.head r s b random))
+      (parsed_holds a (λ (x : Result Apdu Refusal). P (on_parsed x c.head q s a random) (on_parsed x c.head r s b random))
       (refusal _ _) (λ lc w. parsed_pair a b random q r lc e))
 
 -- ---- the first commit
@@ -104,6 +105,6 @@ judged_alike c s false true = record { commits = refl; first = refl }
 judged_alike c s false false = record { commits = refl; first = refl }
 
 -- is the same
-pub pin-first_change : (c : Card) (s : Session) (a b random : List ℕ) → named a ≡ IsPlain VerifyPin → length a ≡ length b
+pub pin-first_change : (c : Card) (s : Session) (a b random : List ℕ) → named a ≡ Ok (IsPlain VerifyPin) → length a ≡ length b
     → ((k : ℕ) → k < 5 → byte_at a k ≡ byte_at b k) → Alike (respond c s a random) (respond c s b random)
 pin-first_change c s = pin_pair c s Alike (λ t w. record { commits = refl; first = refl }) (λ x y h. judged_alike c s x y)

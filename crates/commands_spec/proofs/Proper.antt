@@ -7,6 +7,7 @@ use native.Mathlib.Omega.{arith}
 use borrow.Author.Tests.{eqb-true, eqb-false}
 use lib.Dec.{eqb}
 use lib.ListN.{length, get_or, take}
+use Rattle.std.specs.Prelude.{Ok}
 use Rattle.octets.specs.Bytes.{AreBytes, Octets, byte_at}
 use Rattle.octets.specs.Words.{word_at}
 use Rattle.octets.proofs.Parts.{length_part}
@@ -165,7 +166,7 @@ module _ (c : Card) (s : Session) (command random : List ℕ) (i : Sound c s com
 
   -- ---- the plain commands
 
-  reads : (p : Plain) (lc : ℕ) → Passed c s command p lc → is_reader (IsPlain p) ≡ true
+  reads : (p : Plain) (lc : ℕ) → Passed c s command p lc → is_reader (Ok (IsPlain p)) ≡ true
       → A (plain_of p H (get_or c.log (asked command) void) s (header command lc) command (data_of command lc) random)
   reads p lc f r = rw (none c s command _ (plain_way c s command random p lc f) (rw f.names r)) i.proper
 

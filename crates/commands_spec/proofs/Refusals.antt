@@ -4,6 +4,7 @@ use mathlib.Core.List.{List, [], ◌∷◌}
 use mathlib.Core.Path.{◌≡◌, refl, ap}
 use Prim.Native.Nat.{ℕ, ◌+◌}
 use native.Mathlib.Omega.{arith}
+use Rattle.std.specs.Prelude.{Ok}
 use Rattle.card.specs.declared.change.Change.{Change}
 use Rattle.card.specs.Card.{Card}
 use Rattle.card.specs.Updates.{with_state}
@@ -26,7 +27,7 @@ pub record OneTryFewer (c : Card) (o : Outcome) (d : Card) : Type 0 where
   pub tries : d.head.state.tries + 1 ≡ c.head.state.tries
 
 module _ (c : Card) (s : Session) (command : List ℕ) where
-  none : (o : Outcome) → Way c s command o → (o.status ≡ 0x9000 → ⊥) → (named command ≡ IsPlain VerifyPin → o.status ≡ 0x6300 → ⊥) → commits_of o ≡ []
+  none : (o : Outcome) → Way c s command o → (o.status ≡ 0x9000 → ⊥) → (named command ≡ Ok (IsPlain VerifyPin) → o.status ≡ 0x6300 → ⊥) → commits_of o ≡ []
   unfolding refused done judged complete_transaction_of decided commits_of changes_of
   none o (refuses w t j e) x y = rw e
   none o (mismatch t i e) x y = rw e
@@ -35,7 +36,7 @@ module _ (c : Card) (s : Session) (command : List ℕ) where
   none o (answers commits next t answer n q e) x y = absurd (x (rw e))
   none o (books mac i j e) x y = absurd (x (rw (e, j)))
 
-  costs : (o : Outcome) → Way c s command o → named command ≡ IsPlain VerifyPin → o.status ≡ 0x6300 → OneTryFewer c o (afterwards c o)
+  costs : (o : Outcome) → Way c s command o → named command ≡ Ok (IsPlain VerifyPin) → o.status ≡ 0x6300 → OneTryFewer c o (afterwards c o)
   unfolding refused done judged complete_transaction_of decided commits_of changes_of after changed head_after with_state tried is_one refusals
   costs o (refuses w t j e) i f = absurd (not_refused c.head t w 0x6300 o j e f refl)
   costs o (mismatch t i' e) i f = absurd (let z : ◌≡◌ {A = ℕ} 0 1 = cc in omega arith)
@@ -49,15 +50,15 @@ module _ (c : Card) (s : Session) (command random : List ℕ) where
   O = respond c s command random
 
   -- a refusal makes no change, VERIFY PIN's 6300 apart
-  pub refusal_changes_nothing : (O.status ≡ 0x9000 → ⊥) → (named command ≡ IsPlain VerifyPin → O.status ≡ 0x6300 → ⊥) → commits_of O ≡ []
+  pub refusal_changes_nothing : (O.status ≡ 0x9000 → ⊥) → (named command ≡ Ok (IsPlain VerifyPin) → O.status ≡ 0x6300 → ⊥) → commits_of O ≡ []
   refusal_changes_nothing = none c s command O (way c s command random)
 
   -- so that the card is as before
-  pub refusal_keeps : (O.status ≡ 0x9000 → ⊥) → (named command ≡ IsPlain VerifyPin → O.status ≡ 0x6300 → ⊥) → card_after c s command random ≡ c
+  pub refusal_keeps : (O.status ≡ 0x9000 → ⊥) → (named command ≡ Ok (IsPlain VerifyPin) → O.status ≡ 0x6300 → ⊥) → card_after c s command random ≡ c
   unfolding card_after after
   refusal_keeps x y = ap (λ (xs : List Change). after xs c) (refusal_changes_nothing x y)
 
   -- a wrong PIN costs one try, and nothing else
-  pub wrong_pin_costs : named command ≡ IsPlain VerifyPin → O.status ≡ 0x6300 → OneTryFewer c O (card_after c s command random)
+  pub wrong_pin_costs : named command ≡ Ok (IsPlain VerifyPin) → O.status ≡ 0x6300 → OneTryFewer c O (card_after c s command random)
   unfolding card_after
   wrong_pin_costs = costs c s command O (way c s command random)

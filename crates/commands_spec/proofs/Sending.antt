@@ -9,6 +9,7 @@ use borrow.Author.Tests.{le-ltb, lt-ltb, ne_eqb, eq-eqb}
 use lib.Dec.{eqb}
 use lib.ListN.{length, get_or, take, drop, length-append}
 use lib.Seq.{take_at}
+use Rattle.std.specs.Prelude.{Ok}
 use Rattle.octets.specs.Bytes.{byte_at}
 use Rattle.octets.proofs.Equality.{same_refl}
 use Rattle.octets.proofs.Parts.{part-between}
@@ -67,7 +68,7 @@ module _ (c : Card) (s : Session) (random : List ℕ) where
   -- ---- a plain command with data, past steps 1 to 5
 
   pub reaches_plain : (p : Plain) (cla ins p1 p2 : ℕ) (body le : List ℕ) → 0 < length body → length le ≤ 1
-      → instruction cla ins ≡ IsPlain p → (is_select p || s.selected) ≡ true → plain_parameters p p1 p2 ≡ true
+      → instruction cla ins ≡ Ok (IsPlain p) → (is_select p || s.selected) ≡ true → plain_parameters p p1 p2 ≡ true
       → has_record p p1 c.head.fixed.logsize ≡ true → plain_length p (length body) ≡ true
       → let command = plain_command cla ins p1 p2 body le in
       respond c s command random
@@ -82,7 +83,7 @@ module _ (c : Card) (s : Session) (random : List ℕ) where
   -- ---- a plain command without data
 
   pub reaches_bare : (p : Plain) (cla ins p1 p2 : ℕ) (le : List ℕ) → length le ≤ 1
-      → instruction cla ins ≡ IsPlain p → (is_select p || s.selected) ≡ true → plain_parameters p p1 p2 ≡ true
+      → instruction cla ins ≡ Ok (IsPlain p) → (is_select p || s.selected) ≡ true → plain_parameters p p1 p2 ≡ true
       → has_record p p1 c.head.fixed.logsize ≡ true → plain_length p 0 ≡ true
       → let command = bare_command cla ins p1 p2 le in
       respond c s command random
@@ -95,7 +96,7 @@ module _ (c : Card) (s : Session) (random : List ℕ) where
   -- ---- a signed command, rightly signed in an open channel, past steps 1 to 6: with the chain moved on
 
   pub reaches_signed : (g : Signed) (l : Level) (cla ins p1 p2 : ℕ) (body le : List ℕ) → length le ≤ 1 → InChannel s l
-      → instruction cla ins ≡ IsSigned g → signed_parameters g p1 p2 ≡ true → signed_length g (length body + 8) ≡ true → is_open l ≡ true
+      → instruction cla ins ≡ Ok (IsSigned g) → signed_parameters g p1 p2 ≡ true → signed_length g (length body + 8) ≡ true → is_open l ≡ true
       → respond c s (signed_command s cla ins p1 p2 body le) random
       ≡ signed_of g c.head (chained (next_mac s (signed_text cla ins p1 p2 body)) s)
       (record { cla = cla; ins = ins; p1 = p1; p2 = p2; lc = length body + 8 }) body

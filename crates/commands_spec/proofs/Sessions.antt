@@ -8,6 +8,7 @@ use native.Mathlib.Omega.{arith}
 use borrow.Author.Tests.{eqb-true}
 use lib.Dec.{eqb}
 use lib.ListN.{length, get_or, take}
+use Rattle.std.specs.Prelude.{Result, Ok, Err}
 use Rattle.octets.specs.Choice.{pick}
 use Rattle.octets.specs.Bytes.{zeros, byte_at, part, same}
 use Rattle.octets.specs.Words.{word_at}
@@ -29,7 +30,8 @@ use Rattle.apdu.specs.declared.instructions.Plain.TheVariants.{Select, Initializ
 use Rattle.apdu.specs.declared.instructions.Signed.{Signed}
 use Rattle.apdu.specs.declared.instructions.Signed.TheVariants.{PutKey, PinChange, StoreData, InitializeTransaction, CompleteTransaction, PutData}
 use Rattle.apdu.specs.declared.instructions.Instruction.{Instruction}
-use Rattle.apdu.specs.declared.instructions.Instruction.TheVariants.{IsPlain, IsSigned, UnknownClass, UnknownInstruction}
+use Rattle.apdu.specs.declared.instructions.Instruction.TheVariants.{IsPlain, IsSigned}
+use Rattle.apdu.specs.declared.refusals.Refusal.{Refusal}
 use Rattle.apdu.specs.Parsing.{data_of}
 use Rattle.apdu.specs.Lengths.{mac_size, signed_length}
 use Rattle.apdu.proofs.Shapes.{header}
@@ -54,62 +56,58 @@ use Rattle.commands_spec.proofs.Steps.{decided_holds, decided_either, early, mac
 use Rattle.commands_spec.proofs.Judgements.{pin-judged, verify_judged, initialize_judged}
 
 -- what is pending after a command with a status word: P1 is byte 3, the amount bytes 8 and 9
-unfoldable pub pending_after : Instruction → ℕ → List ℕ → Pending
-pending_after (IsPlain Select) w command = Nothing
-pending_after (IsPlain InitializeUpdate) w command = pick (eqb w 0x9000) (Update (set_of (byte_at command 2))) Nothing
-pending_after (IsPlain ExternalAuthenticate) w command = Nothing
-pending_after (IsPlain VerifyPin) w command = Nothing
-pending_after (IsPlain GetData) w command = Nothing
-pending_after (IsPlain ReadRecord) w command = Nothing
-pending_after (IsSigned PutKey) w command = Nothing
-pending_after (IsSigned PinChange) w command = Nothing
-pending_after (IsSigned StoreData) w command = Nothing
-pending_after (IsSigned InitializeTransaction) w command = pick (eqb w 0x9000) (noted (byte_at command 2) (word_at command 7)) Nothing
-pending_after (IsSigned CompleteTransaction) w command = Nothing
-pending_after (IsSigned PutData) w command = Nothing
-pending_after UnknownClass w command = Nothing
-pending_after UnknownInstruction w command = Nothing
+unfoldable pub pending_after : Result Instruction Refusal → ℕ → List ℕ → Pending
+pending_after (Ok (IsPlain Select)) w command = Nothing
+pending_after (Ok (IsPlain InitializeUpdate)) w command = pick (eqb w 0x9000) (Update (set_of (byte_at command 2))) Nothing
+pending_after (Ok (IsPlain ExternalAuthenticate)) w command = Nothing
+pending_after (Ok (IsPlain VerifyPin)) w command = Nothing
+pending_after (Ok (IsPlain GetData)) w command = Nothing
+pending_after (Ok (IsPlain ReadRecord)) w command = Nothing
+pending_after (Ok (IsSigned PutKey)) w command = Nothing
+pending_after (Ok (IsSigned PinChange)) w command = Nothing
+pending_after (Ok (IsSigned StoreData)) w command = Nothing
+pending_after (Ok (IsSigned InitializeTransaction)) w command = pick (eqb w 0x9000) (noted (byte_at command 2) (word_at command 7)) Nothing
+pending_after (Ok (IsSigned CompleteTransaction)) w command = Nothing
+pending_after (Ok (IsSigned PutData)) w command = Nothing
+pending_after (Err x) w command = Nothing
 
 -- the PIN flag: "A wrong or ill-formed PIN: .. flag cleared .. Right: .. flag set"; PIN CHANGE and UNBLOCK clear it
-unfoldable pub verified_after : Instruction → ℕ → Bool → Bool
-verified_after (IsPlain Select) w v = v
-verified_after (IsPlain InitializeUpdate) w v = v
-verified_after (IsPlain ExternalAuthenticate) w v = v
-verified_after (IsPlain VerifyPin) w v = pick (eqb w 0x9000) true (pick (eqb w 0x6300) false v)
-verified_after (IsPlain GetData) w v = v
-verified_after (IsPlain ReadRecord) w v = v
-verified_after (IsSigned PutKey) w v = v
-verified_after (IsSigned PinChange) w v = pick (eqb w 0x9000) false v
-verified_after (IsSigned StoreData) w v = v
-verified_after (IsSigned InitializeTransaction) w v = v
-verified_after (IsSigned CompleteTransaction) w v = v
-verified_after (IsSigned PutData) w v = v
-verified_after UnknownClass w v = v
-verified_after UnknownInstruction w v = v
+unfoldable pub verified_after : Result Instruction Refusal → ℕ → Bool → Bool
+verified_after (Ok (IsPlain Select)) w v = v
+verified_after (Ok (IsPlain InitializeUpdate)) w v = v
+verified_after (Ok (IsPlain ExternalAuthenticate)) w v = v
+verified_after (Ok (IsPlain VerifyPin)) w v = pick (eqb w 0x9000) true (pick (eqb w 0x6300) false v)
+verified_after (Ok (IsPlain GetData)) w v = v
+verified_after (Ok (IsPlain ReadRecord)) w v = v
+verified_after (Ok (IsSigned PutKey)) w v = v
+verified_after (Ok (IsSigned PinChange)) w v = pick (eqb w 0x9000) false v
+verified_after (Ok (IsSigned StoreData)) w v = v
+verified_after (Ok (IsSigned InitializeTransaction)) w v = v
+verified_after (Ok (IsSigned CompleteTransaction)) w v = v
+verified_after (Ok (IsSigned PutData)) w v = v
+verified_after (Err x) w v = v
 
 -- the selection: SELECT's own AID selects, another deselects
-unfoldable pub selected_after : Instruction → ℕ → Bool → Bool
-selected_after (IsPlain Select) w v = pick (eqb w 0x9000) true (pick (eqb w 0x6A82) false v)
-selected_after (IsPlain InitializeUpdate) w v = v
-selected_after (IsPlain ExternalAuthenticate) w v = v
-selected_after (IsPlain VerifyPin) w v = v
-selected_after (IsPlain GetData) w v = v
-selected_after (IsPlain ReadRecord) w v = v
-selected_after (IsSigned g) w v = v
-selected_after UnknownClass w v = v
-selected_after UnknownInstruction w v = v
+unfoldable pub selected_after : Result Instruction Refusal → ℕ → Bool → Bool
+selected_after (Ok (IsPlain Select)) w v = pick (eqb w 0x9000) true (pick (eqb w 0x6A82) false v)
+selected_after (Ok (IsPlain InitializeUpdate)) w v = v
+selected_after (Ok (IsPlain ExternalAuthenticate)) w v = v
+selected_after (Ok (IsPlain VerifyPin)) w v = v
+selected_after (Ok (IsPlain GetData)) w v = v
+selected_after (Ok (IsPlain ReadRecord)) w v = v
+selected_after (Ok (IsSigned g)) w v = v
+selected_after (Err x) w v = v
 
 -- the channel: SELECT that reaches its AID, EXTERNAL AUTHENTICATE that judges, and step 6 may close it or open another
-unfoldable pub touches : Instruction → ℕ → Bool
-touches (IsPlain Select) w = eqb w 0x9000 || eqb w 0x6A82
-touches (IsPlain InitializeUpdate) w = false
-touches (IsPlain ExternalAuthenticate) w = eqb w 0x9000 || eqb w 0x6300 || eqb w 0x6982
-touches (IsPlain VerifyPin) w = false
-touches (IsPlain GetData) w = false
-touches (IsPlain ReadRecord) w = false
-touches (IsSigned g) w = eqb w 0x6982
-touches UnknownClass w = false
-touches UnknownInstruction w = false
+unfoldable pub touches : Result Instruction Refusal → ℕ → Bool
+touches (Ok (IsPlain Select)) w = eqb w 0x9000 || eqb w 0x6A82
+touches (Ok (IsPlain InitializeUpdate)) w = false
+touches (Ok (IsPlain ExternalAuthenticate)) w = eqb w 0x9000 || eqb w 0x6300 || eqb w 0x6982
+touches (Ok (IsPlain VerifyPin)) w = false
+touches (Ok (IsPlain GetData)) w = false
+touches (Ok (IsPlain ReadRecord)) w = false
+touches (Ok (IsSigned g)) w = eqb w 0x6982
+touches (Err x) w = false
 
 -- the same level and session keys; the chains may have moved
 pub record SameKeys (a b : Channel) : Type 0 where
@@ -121,7 +119,7 @@ never : {a b : Channel} → true ≡ false → SameKeys a b
 never e = absurd (false≢true (sym e))
 
 -- of a session s, a command with a status word w leaves t
-pub record Leaves (i : Instruction) (s : Session) (command : List ℕ) (w : ℕ) (t : Session) : Type 0 where
+pub record Leaves (i : Result Instruction Refusal) (s : Session) (command : List ℕ) (w : ℕ) (t : Session) : Type 0 where
   pub pending : t.pending ≡ pending_after i w command
   pub verified : t.verified ≡ verified_after i w s.verified
   pub selected : t.selected ≡ selected_after i w s.selected
@@ -135,12 +133,12 @@ module _ (c : Card) (s : Session) (command random : List ℕ) where
   abbrev H : Head
   H = c.head
 
-  abbrev L : Instruction → Outcome → Type 0
+  abbrev L : Result Instruction Refusal → Outcome → Type 0
   L i o = Leaves i s command o.status o.session
 
   -- ---- steps 1 to 6
 
-  early_leaves : (i : Instruction) (w : ℕ) → is_one w early ≡ true → L i (refused H (ended s) w)
+  early_leaves : (i : Result Instruction Refusal) (w : ℕ) → is_one w early ≡ true → L i (refused H (ended s) w)
   unfolding refused ended pending_after verified_after selected_after touches is_one
   early_leaves i w j = go i
     where
@@ -153,23 +151,22 @@ module _ (c : Card) (s : Session) (command random : List ℕ) where
       d : eqb w 0x6A82 ≡ false
       d = other early w 0x6A82 j refl
 
-      go : (i : Instruction) → L i (refused H (ended s) w)
-      go (IsPlain Select) = record { pending = refl; verified = refl; selected = rw (a, d); channel = λ e. search }
-      go (IsPlain InitializeUpdate) = record { pending = rw a; verified = refl; selected = refl; channel = λ e. search }
-      go (IsPlain ExternalAuthenticate) = search never
-      go (IsPlain VerifyPin) = record { pending = refl; verified = rw (a, b); selected = refl; channel = λ e. search }
-      go (IsPlain GetData) = search never
-      go (IsPlain ReadRecord) = search never
-      go (IsSigned PutKey) = search never
-      go (IsSigned PinChange) = record { pending = refl; verified = rw a; selected = refl; channel = λ e. search }
-      go (IsSigned StoreData) = search never
-      go (IsSigned InitializeTransaction) = record { pending = rw a; verified = refl; selected = refl; channel = λ e. search }
-      go (IsSigned CompleteTransaction) = search never
-      go (IsSigned PutData) = search never
-      go UnknownClass = search never
-      go UnknownInstruction = search never
+      go : (i : Result Instruction Refusal) → L i (refused H (ended s) w)
+      go (Ok (IsPlain Select)) = record { pending = refl; verified = refl; selected = rw (a, d); channel = λ e. search }
+      go (Ok (IsPlain InitializeUpdate)) = record { pending = rw a; verified = refl; selected = refl; channel = λ e. search }
+      go (Ok (IsPlain ExternalAuthenticate)) = search never
+      go (Ok (IsPlain VerifyPin)) = record { pending = refl; verified = rw (a, b); selected = refl; channel = λ e. search }
+      go (Ok (IsPlain GetData)) = search never
+      go (Ok (IsPlain ReadRecord)) = search never
+      go (Ok (IsSigned PutKey)) = search never
+      go (Ok (IsSigned PinChange)) = record { pending = refl; verified = rw a; selected = refl; channel = λ e. search }
+      go (Ok (IsSigned StoreData)) = search never
+      go (Ok (IsSigned InitializeTransaction)) = record { pending = rw a; verified = refl; selected = refl; channel = λ e. search }
+      go (Ok (IsSigned CompleteTransaction)) = search never
+      go (Ok (IsSigned PutData)) = search never
+      go (Err x) = search never
 
-  unsigned_leaves : (g : Signed) → L (IsSigned g) (refused H (closed s) 0x6982)
+  unsigned_leaves : (g : Signed) → L (Ok (IsSigned g)) (refused H (closed s) 0x6982)
   unfolding refused closed pending_after verified_after selected_after touches
   unsigned_leaves PutKey = search never
   unsigned_leaves PinChange = search never
@@ -180,10 +177,10 @@ module _ (c : Card) (s : Session) (command random : List ℕ) where
 
   -- ---- the plain commands
 
-  authenticate_leaves : (pending : Pending) (p1 : ℕ) (body : List ℕ) → L (IsPlain ExternalAuthenticate) (external_authenticate_of pending H s p1 command body)
+  authenticate_leaves : (pending : Pending) (p1 : ℕ) (body : List ℕ) → L (Ok (IsPlain ExternalAuthenticate)) (external_authenticate_of pending H s p1 command body)
   unfolding external_authenticate_of authenticated refused done ended closed opened pending_after verified_after selected_after touches
   authenticate_leaves (Update set) p1 body =
-      let P = L (IsPlain ExternalAuthenticate) in
+      let P = L (Ok (IsPlain ExternalAuthenticate)) in
       pick_holds P (not (same (part body 0 8) s.offer.expected)) _ _ (λ t. search never)
       (λ t. pick_holds P (not (same (part body 8 8) (cmac_of s.offer.mac (zeros 8) command 13))) _ _
       (λ u. search never) (λ u. search never))
@@ -191,22 +188,22 @@ module _ (c : Card) (s : Session) (command random : List ℕ) where
   authenticate_leaves (Debiting n) p1 body = search never
   authenticate_leaves (Crediting n) p1 body = search never
 
-  judged-leaves : (right : Bool) → L (IsPlain VerifyPin) (judged right H s)
+  judged-leaves : (right : Bool) → L (Ok (IsPlain VerifyPin)) (judged right H s)
   unfolding judged done flagged pending_after verified_after selected_after touches
   judged-leaves true = search never
   judged-leaves false = search never
 
-  plain-leaves : (p : Plain) (lc : ℕ) → L (IsPlain p) (plain_of p H (get_or c.log (asked command) void) s (header command lc) command (data_of command lc) random)
+  plain-leaves : (p : Plain) (lc : ℕ) → L (Ok (IsPlain p)) (plain_of p H (get_or c.log (asked command) void) s (header command lc) command (data_of command lc) random)
   unfolding plain_of select_of initialize_update_of verify_pin_of get_data_of read_record_of refused done ended reselected offered pending_after verified_after selected_after touches is_one refusals
   plain-leaves Select lc =
-      pick_holds (L (IsPlain Select)) (same (data_of command lc) (take H.purse.aid.size H.purse.aid.bytes)) _ _
+      pick_holds (L (Ok (IsPlain Select))) (same (data_of command lc) (take H.purse.aid.size H.purse.aid.bytes)) _ _
       (λ t. search never) (λ t. search never)
   plain-leaves InitializeUpdate lc =
-      pick_holds (L (IsPlain InitializeUpdate)) (not (key_set_of (set_of (byte_at command 2)) H).defined) _ _
+      pick_holds (L (Ok (IsPlain InitializeUpdate))) (not (key_set_of (set_of (byte_at command 2)) H).defined) _ _
       (λ t. search never) (λ t. search never)
   plain-leaves ExternalAuthenticate lc = authenticate_leaves s.pending (byte_at command 2) (data_of command lc)
   plain-leaves VerifyPin lc =
-      decided_holds (L (IsPlain VerifyPin)) refusals _ _ _ _ (verify_judged _ _ _ _) (λ t. judged-leaves _)
+      decided_holds (L (Ok (IsPlain VerifyPin))) refusals _ _ _ _ (verify_judged _ _ _ _) (λ t. judged-leaves _)
       (λ j. record { pending = refl; verified = rw (other refusals _ 0x9000 j refl, other refusals _ 0x6300 j refl); selected = refl; channel = λ e. search })
   plain-leaves GetData lc = search never
   plain-leaves ReadRecord lc = search never
@@ -214,27 +211,27 @@ module _ (c : Card) (s : Session) (command random : List ℕ) where
   -- ---- the signed commands
 
   signed-leaves : (g : Signed) (lc : ℕ) → Accepted s command g lc
-      → L (IsSigned g) (signed_of g H (chained (mac_of s command lc) s) (header command lc) (data_of command (lc - mac_size)))
+      → L (Ok (IsSigned g)) (signed_of g H (chained (mac_of s command lc) s) (header command lc) (data_of command (lc - mac_size)))
   unfolding signed_of put_key_of pin_change_of store_data_of initialize_transaction_of complete_transaction_of put_data_of refused done ended chained flagged answered pending_after verified_after selected_after touches is_one refusals signed_length
   signed-leaves PutKey lc f =
-      decided_either (L (IsSigned PutKey)) _ _ _ _ (λ t. search never) (search never)
+      decided_either (L (Ok (IsSigned PutKey))) _ _ _ _ (λ t. search never) (search never)
   signed-leaves PinChange lc f =
-      decided_holds (L (IsSigned PinChange)) refusals _ _ _ _ (pin-judged _ _ _ _)
-      (λ t. pick_holds (L (IsSigned PinChange)) (eqb (length (data_of command (lc - mac_size))) 0) _ _
+      decided_holds (L (Ok (IsSigned PinChange))) refusals _ _ _ _ (pin-judged _ _ _ _)
+      (λ t. pick_holds (L (Ok (IsSigned PinChange))) (eqb (length (data_of command (lc - mac_size))) 0) _ _
       (λ u. search never) (λ u. search never))
       (λ j. record { pending = refl; verified = rw (other refusals _ 0x9000 j refl); selected = refl; channel = λ e. search })
   signed-leaves StoreData lc f =
-      decided_either (L (IsSigned StoreData)) _ _ _ _ (λ t. search never) (search never)
+      decided_either (L (Ok (IsSigned StoreData))) _ _ _ _ (λ t. search never) (search never)
   signed-leaves InitializeTransaction lc f =
       let k : lc ≡ 12 = eqb-true lc 12 f.long in
       let a : word_at (data_of command (lc - mac_size)) 2 ≡ word_at command 7 = rw k (word_in_part command 5 4 2 (omega arith)) in
-      decided_holds (L (IsSigned InitializeTransaction)) refusals _ _ _ _ (initialize_judged _ _ _ _ _)
+      decided_holds (L (Ok (IsSigned InitializeTransaction))) refusals _ _ _ _ (initialize_judged _ _ _ _ _)
       (λ t. record { pending = ap (noted (byte_at command 2)) a; verified = refl; selected = refl; channel = λ e. search })
       (λ j. record { pending = rw (other refusals _ 0x9000 j refl); verified = refl; selected = refl; channel = λ e. search })
   signed-leaves CompleteTransaction lc f =
-      decided_either (L (IsSigned CompleteTransaction)) _ _ _ _ (λ t. search never) (search never)
+      decided_either (L (Ok (IsSigned CompleteTransaction))) _ _ _ _ (λ t. search never) (search never)
   signed-leaves PutData lc f =
-      decided_either (L (IsSigned PutData)) _ _ _ _ (λ t. search never) (search never)
+      decided_either (L (Ok (IsSigned PutData))) _ _ _ _ (λ t. search never) (search never)
 
   -- every outcome's session is so
   pub ends_pending : Leaves (named command) s command (respond c s command random).status (respond c s command random).session

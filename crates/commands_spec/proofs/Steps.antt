@@ -8,6 +8,7 @@ use native.Mathlib.Omega.{arith}
 use borrow.Author.Tests.{eqb-true, not-false}
 use lib.Dec.{ltb, eqb}
 use lib.ListN.{length, get_or}
+use Rattle.std.specs.Prelude.{Result, Ok, Err}
 use Rattle.octets.specs.Choice.{pick, refuse}
 use Rattle.octets.specs.Bytes.{byte_at, part, same}
 use Rattle.octets.proofs.Conditions.{and_both}
@@ -19,13 +20,16 @@ use Rattle.card.specs.Card.{Card}
 use Rattle.session.specs.declared.Session.{Session}
 use Rattle.session.specs.Transitions.{ended, closed, chained}
 use Rattle.session.specs.Access.{is_open}
-use Rattle.apdu.specs.declared.parsing.Parsed.{Parsed}
-use Rattle.apdu.specs.declared.parsing.Parsed.TheVariants.{WrongLength}
 use Rattle.apdu.specs.declared.instructions.Plain.{Plain}
 use Rattle.apdu.specs.declared.instructions.Signed.{Signed}
 use Rattle.apdu.specs.declared.instructions.Instruction.{Instruction}
-use Rattle.apdu.specs.declared.instructions.Instruction.TheVariants.{IsPlain, IsSigned, UnknownClass, UnknownInstruction}
+use Rattle.apdu.specs.declared.instructions.Instruction.TheVariants.{IsPlain, IsSigned}
+use Rattle.apdu.specs.declared.parsing.Apdu.{Apdu}
+use Rattle.apdu.specs.declared.refusals.Refusal.{Refusal}
+use Rattle.apdu.specs.declared.refusals.Refusal.TheVariants.{WrongLength}
+use Rattle.apdu.proofs.Table.{unknown}
 use Rattle.apdu.proofs.Shapes.{header}
+use Rattle.apdu.specs.Refusals.{refusal_word}
 use Rattle.apdu.specs.Parsing.{headed, parsed, data_of}
 use Rattle.apdu.specs.Parameters.{plain_parameters, signed_parameters, has_record}
 use Rattle.apdu.specs.Lengths.{mac_size, plain_length, signed_length}
@@ -100,7 +104,7 @@ or_within n a e = go (eqb n (5 + a)) refl e
     go false p q = omega (arith, eqb-true n (6 + a) q)
 
 -- what holds of a wrong length and of each header holds of what bytes are as a command
-pub parsed_holds : (command : List ℕ) (P : Parsed → Type 0) → P WrongLength → ((lc : ℕ) → (0 < lc → 5 + lc ≤ length command) → P (headed command lc))
+pub parsed_holds : (command : List ℕ) (P : Result Apdu Refusal → Type 0) → P (Err WrongLength) → ((lc : ℕ) → (0 < lc → 5 + lc ≤ length command) → P (headed command lc))
     → P (parsed command)
 unfolding parsed
 parsed_holds command P wrong f =
@@ -140,7 +144,7 @@ mac_of s command lc = cmac_of s.channel.mac s.channel.cmac command (5 + (lc - ma
 
 -- a plain command past step 5
 pub record Passed (c : Card) (s : Session) (command : List ℕ) (p : Plain) (lc : ℕ) : Type 0 where
-  pub names : named command ≡ IsPlain p
+  pub names : named command ≡ Ok (IsPlain p)
   pub within : 0 < lc → 5 + lc ≤ length command
   pub selected : (is_select p || s.selected) ≡ true
   pub parameters : plain_parameters p (byte_at command 2) (byte_at command 3) ≡ true
@@ -149,7 +153,7 @@ pub record Passed (c : Card) (s : Session) (command : List ℕ) (p : Plain) (lc 
 
 -- a signed command past step 6
 pub record Accepted (s : Session) (command : List ℕ) (g : Signed) (lc : ℕ) : Type 0 where
-  pub names : named command ≡ IsSigned g
+  pub names : named command ≡ Ok (IsSigned g)
   pub within : 0 < lc → 5 + lc ≤ length command
   pub selected : s.selected ≡ true
   pub parameters : signed_parameters g (byte_at command 2) (byte_at command 3) ≡ true
@@ -159,7 +163,7 @@ pub record Accepted (s : Session) (command : List ℕ) (g : Signed) (lc : ℕ) :
 
 module _ (c : Card) (s : Session) (command random : List ℕ) (P : Outcome → Type 0)
     (refusal : (w : ℕ) → is_one w early ≡ true → P (refused c.head (ended s) w))
-    (unsigned : (g : Signed) → named command ≡ IsSigned g → P (refused c.head (closed s) 0x6982))
+    (unsigned : (g : Signed) → named command ≡ Ok (IsSigned g) → P (refused c.head (closed s) 0x6982))
     (plain : (p : Plain) (lc : ℕ) → Passed c s command p lc
     → P (plain_of p c.head (get_or c.log (asked command) void) s (header command lc) command (data_of command lc) random))
     (signed : (g : Signed) (lc : ℕ) → Accepted s command g lc
@@ -170,7 +174,7 @@ module _ (c : Card) (s : Session) (command random : List ℕ) (P : Outcome → T
   abbrev R : Record
   R = get_or c.log (asked command) void
 
-  authorized_holds : (g : Signed) (lc : ℕ) → named command ≡ IsSigned g → (0 < lc → 5 + lc ≤ length command)
+  authorized_holds : (g : Signed) (lc : ℕ) → named command ≡ Ok (IsSigned g) → (0 < lc → 5 + lc ≤ length command)
       → Early s.selected (signed_parameters g (byte_at command 2) (byte_at command 3)) true (signed_length g lc)
       → P (authorized g H s (header command lc) command)
   unfolding authorized
@@ -181,32 +185,33 @@ module _ (c : Card) (s : Session) (command random : List ℕ) (P : Outcome → T
       signed g lc (record { names = e; within = w; selected = f.selected; parameters = f.parameters; long = f.length; opened = b.0; right = b.1 }))
       (λ t. unsigned g e)
 
-  instruction_holds : (lc : ℕ) → (0 < lc → 5 + lc ≤ length command) → (i : Instruction) → named command ≡ i
+  instruction_holds : (lc : ℕ) → (0 < lc → 5 + lc ≤ length command) → (i : Result Instruction Refusal) → named command ≡ i
       → P (on_instruction i H R s (header command lc) command random)
-  unfolding on_instruction plain_status signed_status is_one
-  instruction_holds lc w (IsPlain p) e =
+  unfolding named on_instruction plain_status signed_status is_one
+  instruction_holds lc w (Ok (IsPlain p)) e =
       decided_holds P early _ H (ended s) _ (early_judged _ _ _ _)
       (λ t.
       let f = early_passed (is_select p || s.selected) (plain_parameters p (byte_at command 2) (byte_at command 3)) (has_record p (byte_at command 2) H.fixed.logsize) (plain_length p lc) t in
       plain p lc (record { names = e; within = w; selected = f.selected; parameters = f.parameters; logged = f.logged; long = f.length }))
       (λ j. refusal _ j)
-  instruction_holds lc w (IsSigned g) e =
+  instruction_holds lc w (Ok (IsSigned g)) e =
       decided_holds P early _ H (ended s) _ (early_judged _ _ _ _)
       (λ t.
       let f = early_passed s.selected (signed_parameters g (byte_at command 2) (byte_at command 3)) true (signed_length g lc) t in
       authorized_holds g lc e w f)
       (λ j. refusal _ j)
-  instruction_holds lc w UnknownClass e = refusal 0x6E00 refl
-  instruction_holds lc w UnknownInstruction e = refusal 0x6D00 refl
+  instruction_holds lc w (Err x) e =
+      unknown (λ (y : Refusal). P (refused H (ended s) (refusal_word y))) (refusal 0x6E00 refl) (refusal 0x6D00 refl)
+      (byte_at command 0) (byte_at command 1) x e
 
-  abbrev Q : Parsed → Type 0
+  abbrev Q : Result Apdu Refusal → Type 0
   Q x = P (on_parsed x H R s command random)
 
   headed_holds : (lc : ℕ) → (0 < lc → 5 + lc ≤ length command) → Q (headed command lc)
   unfolding on_parsed named
   headed_holds lc w = instruction_holds lc w (named command) refl
 
-  wrong_holds : Q WrongLength
+  wrong_holds : Q (Err WrongLength)
   unfolding on_parsed is_one
   wrong_holds = refusal 0x6700 refl
 

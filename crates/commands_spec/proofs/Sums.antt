@@ -1,6 +1,5 @@
 -- P1 to P12 of document 01, "Sums to prove (P)": the commands give what each row of the table says. Assumes nothing.
 use lib.Dec.{T}
-use Rattle.octets.specs.Bytes.{same}
 use Rattle.session.specs.Transitions.{answered, reselected}
 use Rattle.session.specs.Access.{access, access_of, has_rmac}
 use Rattle.session.specs.Codes.{amount_of}
@@ -15,5 +14,5 @@ use Rattle.commands_spec.specs.CompleteTransaction.{is_noted, is_debit, complete
 use Rattle.commands_spec.specs.Sums.{keys, card, session, transaction, selected, table, all}
 
 pub sums : T (all table)
-unfolding all same table transaction selected card keys session operational administrative not_above_zero new_balance log_amount initialize_status lacks entitled noted keeps_limits is_noted is_debit amount_of complete_status booked log_record access access_of has_rmac initialize_transaction_of complete_transaction_of decided refused done answered with_state with_balance with_purse select_of select_answer reselected record_bytes
+unfolding all table transaction selected card keys session operational administrative not_above_zero new_balance log_amount initialize_status lacks entitled noted keeps_limits is_noted is_debit amount_of complete_status booked log_record access access_of has_rmac initialize_transaction_of complete_transaction_of decided refused done answered with_state with_balance with_purse select_of select_answer reselected record_bytes
 sums = tt

@@ -8,6 +8,7 @@ use native.Mathlib.Omega.{arith}
 use borrow.Author.Tests.{eqb-true}
 use lib.Dec.{eqb}
 use lib.ListN.{length, get_or, take}
+use Rattle.std.specs.Prelude.{Result, Ok, Err}
 use Rattle.octets.specs.Bytes.{zeros, byte_at, part, same}
 use Rattle.octets.proofs.Rules.{pick_holds}
 use Rattle.card.specs.declared.head.State.{State}
@@ -26,7 +27,8 @@ use Rattle.apdu.specs.declared.instructions.Plain.TheVariants.{Select, Initializ
 use Rattle.apdu.specs.declared.instructions.Signed.{Signed}
 use Rattle.apdu.specs.declared.instructions.Signed.TheVariants.{PutKey, PinChange, StoreData, InitializeTransaction, CompleteTransaction, PutData}
 use Rattle.apdu.specs.declared.instructions.Instruction.{Instruction}
-use Rattle.apdu.specs.declared.instructions.Instruction.TheVariants.{IsPlain, IsSigned, UnknownClass, UnknownInstruction}
+use Rattle.apdu.specs.declared.instructions.Instruction.TheVariants.{IsPlain, IsSigned}
+use Rattle.apdu.specs.declared.refusals.Refusal.{Refusal}
 use Rattle.apdu.specs.Parsing.{data_of}
 use Rattle.apdu.specs.Lengths.{mac_size, signed_length}
 use Rattle.apdu.proofs.Shapes.{header}
@@ -74,41 +76,39 @@ pub record Kept (c d : Card) : Type 0 where
   pub log : d.log ≡ c.log
 
 -- VERIFY PIN and COMPLETE TRANSACTION, past their rules, have ways of their own
-unfoldable pub own_way : Instruction → Bool
-own_way (IsPlain Select) = false
-own_way (IsPlain InitializeUpdate) = false
-own_way (IsPlain ExternalAuthenticate) = false
-own_way (IsPlain VerifyPin) = true
-own_way (IsPlain GetData) = false
-own_way (IsPlain ReadRecord) = false
-own_way (IsSigned PutKey) = false
-own_way (IsSigned PinChange) = false
-own_way (IsSigned StoreData) = false
-own_way (IsSigned InitializeTransaction) = false
-own_way (IsSigned CompleteTransaction) = true
-own_way (IsSigned PutData) = false
-own_way UnknownClass = false
-own_way UnknownInstruction = false
+unfoldable pub own_way : Result Instruction Refusal → Bool
+own_way (Ok (IsPlain Select)) = false
+own_way (Ok (IsPlain InitializeUpdate)) = false
+own_way (Ok (IsPlain ExternalAuthenticate)) = false
+own_way (Ok (IsPlain VerifyPin)) = true
+own_way (Ok (IsPlain GetData)) = false
+own_way (Ok (IsPlain ReadRecord)) = false
+own_way (Ok (IsSigned PutKey)) = false
+own_way (Ok (IsSigned PinChange)) = false
+own_way (Ok (IsSigned StoreData)) = false
+own_way (Ok (IsSigned InitializeTransaction)) = false
+own_way (Ok (IsSigned CompleteTransaction)) = true
+own_way (Ok (IsSigned PutData)) = false
+own_way (Err x) = false
 
 -- SELECT, INITIALIZE UPDATE, EXTERNAL AUTHENTICATE, INITIALIZE TRANSACTION, GET DATA and READ RECORD, and what is no command
-unfoldable pub is_reader : Instruction → Bool
-is_reader (IsPlain Select) = true
-is_reader (IsPlain InitializeUpdate) = true
-is_reader (IsPlain ExternalAuthenticate) = true
-is_reader (IsPlain VerifyPin) = false
-is_reader (IsPlain GetData) = true
-is_reader (IsPlain ReadRecord) = true
-is_reader (IsSigned PutKey) = false
-is_reader (IsSigned PinChange) = false
-is_reader (IsSigned StoreData) = false
-is_reader (IsSigned InitializeTransaction) = true
-is_reader (IsSigned CompleteTransaction) = false
-is_reader (IsSigned PutData) = false
-is_reader UnknownClass = true
-is_reader UnknownInstruction = true
+unfoldable pub is_reader : Result Instruction Refusal → Bool
+is_reader (Ok (IsPlain Select)) = true
+is_reader (Ok (IsPlain InitializeUpdate)) = true
+is_reader (Ok (IsPlain ExternalAuthenticate)) = true
+is_reader (Ok (IsPlain VerifyPin)) = false
+is_reader (Ok (IsPlain GetData)) = true
+is_reader (Ok (IsPlain ReadRecord)) = true
+is_reader (Ok (IsSigned PutKey)) = false
+is_reader (Ok (IsSigned PinChange)) = false
+is_reader (Ok (IsSigned StoreData)) = false
+is_reader (Ok (IsSigned InitializeTransaction)) = true
+is_reader (Ok (IsSigned CompleteTransaction)) = false
+is_reader (Ok (IsSigned PutData)) = false
+is_reader (Err x) = true
 
 -- at most one commit, which leaves that head; no change of balance, number or log; no commit of a reader
-pub record Quiet (c : Card) (i : Instruction) (commits : Commits) (next : Head) : Type 0 where
+pub record Quiet (c : Card) (i : Result Instruction Refusal) (commits : Commits) (next : Head) : Type 0 where
   pub few : length (changes_of commits next void) ≤ 1
   pub reached : (after (changes_of commits next void) c).head ≡ next
   pub kept : Kept c (after (changes_of commits next void) c)
@@ -117,11 +117,11 @@ pub record Quiet (c : Card) (i : Instruction) (commits : Commits) (next : Head) 
 -- the ways; each says what the outcome is
 pub data Way (c : Card) (s : Session) (command : List ℕ) (o : Outcome) : Type 0 where
   refuses : (w : ℕ) (t : Session) → is_one w refusals ≡ true → o ≡ refused c.head t w → Way c s command o
-  mismatch : (t : Session) → named command ≡ IsPlain ExternalAuthenticate → o ≡ refused c.head t 0x6300 → Way c s command o
-  judges : (right : Bool) → named command ≡ IsPlain VerifyPin → 0 < c.head.state.tries → o ≡ judged right c.head s → Way c s command o
+  mismatch : (t : Session) → named command ≡ Ok (IsPlain ExternalAuthenticate) → o ≡ refused c.head t 0x6300 → Way c s command o
+  judges : (right : Bool) → named command ≡ Ok (IsPlain VerifyPin) → 0 < c.head.state.tries → o ≡ judged right c.head s → Way c s command o
   answers : (commits : Commits) (next : Head) (t : Session) (answer : List ℕ) → own_way (named command) ≡ false → Quiet c (named command) commits next
       → o ≡ done commits next t answer → Way c s command o
-  books : (mac : List ℕ) → named command ≡ IsSigned CompleteTransaction → complete_status c.head (chained mac s) ≡ 0x9000
+  books : (mac : List ℕ) → named command ≡ Ok (IsSigned CompleteTransaction) → complete_status c.head (chained mac s) ≡ 0x9000
       → o ≡ complete_transaction_of c.head (chained mac s) (part command 5 16) → Way c s command o
 
 -- a word that isn't one of them wasn't refused
@@ -133,7 +133,7 @@ not_refused h t w x o j e f n =
 
 -- ---- what keeps balance, number and log
 
-module _ (c : Card) (i : Instruction) where
+module _ (c : Card) (i : Result Instruction Refusal) where
   unchanged : Quiet c i Unchanged c.head
   unfolding after changes_of
   unchanged = record { few = omega arith; reached = refl; kept = record { balance = refl; number = refl; log = refl }; reads = λ e. refl }
@@ -176,7 +176,7 @@ module _ (c : Card) (s : Session) (command random : List ℕ) where
   sets : (next : Head) (t : Session) → own_way (named command) ≡ false → is_reader (named command) ≡ false → Rest c.head next → W (done HotAndCold next t [])
   sets next t n m r = answers HotAndCold next t [] n (settings c (named command) m next r) refl
 
-  authenticates : (pending : Pending) (p1 : ℕ) (body : List ℕ) → named command ≡ IsPlain ExternalAuthenticate
+  authenticates : (pending : Pending) (p1 : ℕ) (body : List ℕ) → named command ≡ Ok (IsPlain ExternalAuthenticate)
       → W (external_authenticate_of pending c.head s p1 command body)
   unfolding external_authenticate_of authenticated own_way is_one refusals
   authenticates (Update set) p1 body e =
@@ -204,7 +204,7 @@ module _ (c : Card) (s : Session) (command random : List ℕ) where
   plain_way GetData lc f = let e = f.names in tells _ _ (rw e)
   plain_way ReadRecord lc f = let e = f.names in tells _ _ (rw e)
 
-  completes : (mac : List ℕ) → named command ≡ IsSigned CompleteTransaction → W (complete_transaction_of c.head (chained mac s) (part command 5 16))
+  completes : (mac : List ℕ) → named command ≡ Ok (IsSigned CompleteTransaction) → W (complete_transaction_of c.head (chained mac s) (part command 5 16))
   unfolding complete_transaction_of decided is_one
   completes mac e = go (eqb w 0x9000) refl
     where

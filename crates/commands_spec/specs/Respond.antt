@@ -1,7 +1,7 @@
 -- A command on a card, in document 01's order: steps 1 to 5; step 6, "Signed commands: no channel, or wrong C-MAC, 6982 and the
 -- channel closes. A right C-MAC moves the chain on even if a later step refuses"; then the command's own rules. Every command ends
 -- what was pending. Assumes nothing.
-use Rattle.std.specs.Prelude.{◌&&◌, List, ℕ, ◌+◌, ◌-◌, get_or}
+use Rattle.std.specs.Prelude.{◌&&◌, List, ℕ, ◌+◌, ◌-◌, get_or, Result, Ok, Err}
 use Rattle.octets.specs.Choice.{pick}
 use Rattle.octets.specs.Bytes.{byte_at, part, same}
 use Rattle.card.specs.declared.head.Head.{Head}
@@ -13,14 +13,14 @@ use Rattle.session.specs.declared.Session.{Session}
 use Rattle.session.specs.Transitions.{ended, closed, chained}
 use Rattle.session.specs.Access.{is_open}
 use Rattle.apdu.specs.declared.parsing.Apdu.{Apdu}
-use Rattle.apdu.specs.declared.parsing.Parsed.{Parsed}
-use Rattle.apdu.specs.declared.parsing.Parsed.TheVariants.{Command, WrongLength}
 use Rattle.apdu.specs.declared.instructions.Plain.{Plain}
 use Rattle.apdu.specs.declared.instructions.Plain.TheVariants.{Select, InitializeUpdate, ExternalAuthenticate, VerifyPin, GetData, ReadRecord}
 use Rattle.apdu.specs.declared.instructions.Signed.{Signed}
 use Rattle.apdu.specs.declared.instructions.Signed.TheVariants.{PutKey, PinChange, StoreData, InitializeTransaction, CompleteTransaction, PutData}
 use Rattle.apdu.specs.declared.instructions.Instruction.{Instruction}
-use Rattle.apdu.specs.declared.instructions.Instruction.TheVariants.{IsPlain, IsSigned, UnknownClass, UnknownInstruction}
+use Rattle.apdu.specs.declared.instructions.Instruction.TheVariants.{IsPlain, IsSigned}
+use Rattle.apdu.specs.declared.refusals.Refusal.{Refusal}
+use Rattle.apdu.specs.Refusals.{refusal_word}
 use Rattle.apdu.specs.Parsing.{parsed, data_of}
 use Rattle.apdu.specs.Instructions.{instruction}
 use Rattle.apdu.specs.Lengths.{mac_size}
@@ -69,21 +69,20 @@ authorized g h s a command =
     (refused h (closed s) 0x6982)
 
 -- steps 3 to 5 by the kind of command, and step 2's refusals
-unfoldable pub on_instruction : Instruction → Head → Record → Session → Apdu → List ℕ → List ℕ → Outcome
-on_instruction (IsPlain p) h r s a command random =
+unfoldable pub on_instruction : Result Instruction Refusal → Head → Record → Session → Apdu → List ℕ → List ℕ → Outcome
+on_instruction (Ok (IsPlain p)) h r s a command random =
     decided (plain_status p s.selected a h.fixed.logsize) h (ended s) (plain_of p h r s a command (data_of command a.lc) random)
-on_instruction (IsSigned g) h r s a command random =
+on_instruction (Ok (IsSigned g)) h r s a command random =
     decided (signed_status g s.selected a) h (ended s) (authorized g h s a command)
-on_instruction UnknownClass h r s a command random = refused h (ended s) 0x6E00
-on_instruction UnknownInstruction h r s a command random = refused h (ended s) 0x6D00
+on_instruction (Err x) h r s a command random = refused h (ended s) (refusal_word x)
 
 -- step 2, and step 1's refusal
-unfoldable pub on_parsed : Parsed → Head → Record → Session → List ℕ → List ℕ → Outcome
-on_parsed (Command a) h r s command random = on_instruction (instruction a.cla a.ins) h r s a command random
-on_parsed WrongLength h r s command random = refused h (ended s) 0x6700
+unfoldable pub on_parsed : Result Apdu Refusal → Head → Record → Session → List ℕ → List ℕ → Outcome
+on_parsed (Ok a) h r s command random = on_instruction (instruction a.cla a.ins) h r s a command random
+on_parsed (Err x) h r s command random = refused h (ended s) (refusal_word x)
 
 -- the instruction that a command names by its first two bytes
-unfoldable pub named : List ℕ → Instruction
+unfoldable pub named : List ℕ → Result Instruction Refusal
 named command = instruction (byte_at command 0) (byte_at command 1)
 
 -- on a head, and the record that the command would read

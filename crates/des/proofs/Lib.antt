@@ -1,3 +1,4 @@
+mod Halves
 mod Numbers
 mod Places
 mod Turns

@@ -1,4 +1,5 @@
-// The data encryption standard, straight from FIPS 46-3: one bit to an array element, the leftmost first.
+// The data encryption standard, straight from FIPS 46-3: one bit to an array element, the leftmost first. Blocks, halves and the
+// sixteen round keys pass by value, the form that 01 lists for DES; tables are lent.
 #![tactic(auto)]
 
 mod bits;
@@ -12,14 +13,15 @@ mod tables;
 ghost use Rattle.std.specs.Prelude.{◌≡◌};
 ghost use Rattle.des_spec.specs.Des.{round_keys, block_under, des};
 
+use octets::part;
+
 // The round keys of a key, in the order of use.
 pub fn round_keys(key: [u8; 8], decipher: bool) -> [[u8; 48]; 16]
     ensures { result ≡ round_keys decipher key }
 {
-    let bits = bits::bits_of(key);
-    let keys = schedule::schedule(bits);
+    let mut keys = schedule::schedule(bits::binaries::<8, 64>(key));
     if decipher {
-        return schedule::reversed(keys);
+        keys.reverse();
     }
     keys
 }
@@ -28,11 +30,8 @@ pub fn round_keys(key: [u8; 8], decipher: bool) -> [[u8; 48]; 16]
 pub fn block_under(keys: [[u8; 48]; 16], block: [u8; 8]) -> [u8; 8]
     ensures { result ≡ block_under keys block }
 {
-    let first = rows::initial(block);
-    let bits = bits::bits_of(first);
-    let left = rounds::half(bits, 0);
-    let right = rounds::half(bits, 32);
-    let last = rounds::rounds(keys, left, right);
+    let bits = bits::binaries::<8, 64>(rows::initial(block));
+    let last = rounds::rounds(keys, part(&bits, 0), part(&bits, 32));
     rows::inverse(last)
 }
 

@@ -10,10 +10,11 @@ use lib.Dec.{leb}
 use lib.ListN.{length, drop, length-append, length-drop}
 use Rattle.octets.specs.Bytes.{paste}
 use Rattle.octets.proofs.Pasting.{length-paste, paste-next, paste-nothing}
+use Rattle.framing.specs.declared.output.Output.{Output}
 use Rattle.framing.specs.Frames.{frame_size, whole}
 use Rattle.framing.specs.Formats.{Format, taken, next_of, line_of}
 use Rattle.framing.specs.Stream.{Batch, still, roomy, goes_on, extended, batch_in, batch}
-use Rattle.framing.specs.Step.{Fitting, Puts, Stepped, Batches}
+use Rattle.framing.specs.Step.{Fitting, PutsBehind, Stepped, Batches}
 use Rattle.framing.proofs.Fronts.{both, whole_is, taken-whole}
 
 -- a whole frame behind the used bytes lies within what is in hand
@@ -42,12 +43,9 @@ module _ (F : Format) where
 
 -- one frame more: its size, its line behind the others, and the state behind it
 module _ (F : Format) (st : F.Carried) (input rest : List ℕ) (used : ℕ) (l : rest ≡ drop used input) where
-  pub text_fits : (S : Fitting F) (m : ℕ) → S.Good st m → (n : ℕ) → n ≡ length (line_of F st rest) → n ≤ F.longest
-  text_fits S m g n h = rw h (S.line_fits st rest m g)
-
-  pub stepped : (out out' : List ℕ) (written size n : ℕ) (st' : F.Carried) → size ≡ frame_size rest → Puts (line_of F st rest) out written n out'
-      → st' ≡ next_of F st rest → Stepped F st input used out written (used + size) (written + n) st' out'
-  stepped out out' written size n st' h g i = record { uses = rw (h, l); writes = rw (g.0, l); state = i ∙ rw l; shows = g.1 ∙ rw l }
+  pub stepped : (o o' : Output) (size : ℕ) (st' : F.Carried) → size ≡ frame_size rest → PutsBehind (line_of F st rest) o o'
+      → st' ≡ next_of F st rest → Stepped F st input used o.area.now o.written (used + size) o'.written st' o'.area.now
+  stepped o o' size st' h g i = record { uses = rw (h, l); writes = g.writes ∙ rw l; state = i ∙ rw l; shows = g.shows ∙ rw l }
 
 -- the batch so far that the code's numbers, state and output area stand for, and how many frames at most are left of it
 pub record Going (F : Format) (S : Fitting F) (st₀ : F.Carried) (input out₀ out : List ℕ) (used written : ℕ) (st : F.Carried) : Type 0 where

@@ -3,6 +3,7 @@ use Prim.Native.Nat.{ℕ}
 use mathlib.Core.Bool.{Bool, true, false, not, ◌&&◌, false≢true}
 use mathlib.Core.List.{List}
 use mathlib.Core.Path.{◌≡◌, refl, sym, ◌∙◌}
+use denote.Enum.Bare.{sameb}
 use native.Mathlib.Decide.{dec_le}
 use native.Mathlib.Nat.{lt_of_not-le}
 use native.Mathlib.Omega.{arith}
@@ -11,6 +12,8 @@ use lib.Dec.{leb, ltb, eqb}
 use lib.ListN.{length}
 use Rattle.octets.specs.Choice.{pick}
 use Rattle.octets.specs.Bytes.{byte_at}
+use Rattle.framing.specs.contracts.front.Front.{the_type}
+use Rattle.framing.specs.declared.front.Front.{Front}
 use Rattle.framing.specs.declared.front.Front.TheVariants.{Frame, Malformed, Awaited}
 use Rattle.framing.specs.Frames.{header_size, frame_kind, data_size, frame_size, marked, leads, is_frame, is_malformed, front_of, header_ok, whole, malformed}
 use Rattle.framing.specs.Broken.{Broken, wrong_mark, wrong_data, header_cut, data_cut}
@@ -89,3 +92,17 @@ module _ (ok : ℕ → ℕ → Bool) (s : List ℕ) where
       by true true false d = refl
       by true true true false = refl
       by true true true true = refl
+
+-- ---- what leads, as `==` tests it
+
+pub frame_test : (f : Front) → sameb the_type f Frame ≡ is_frame f
+unfolding is_frame
+frame_test Frame = refl
+frame_test Malformed = refl
+frame_test Awaited = refl
+
+pub malformed_test : (f : Front) → sameb the_type f Malformed ≡ is_malformed f
+unfolding is_malformed
+malformed_test Frame = refl
+malformed_test Malformed = refl
+malformed_test Awaited = refl

@@ -1,20 +1,22 @@
 -- A turn: what is behind a batch, whatever the format. Assumes nothing.
-use Prim.Native.Nat.{ℕ, zero, suc, ◌+◌, ◌-◌, ◌≤◌, ◌<◌}
+use Prim.Native.Nat.{ℕ, zero, suc, ◌+◌, ◌-◌, ◌≤◌}
 use mathlib.Core.Bool.{Bool, true, false, not}
 use mathlib.Core.List.{List}
 use mathlib.Core.Path.{◌≡◌, refl, sym, ap, subst, ◌∙◌}
 use native.Mathlib.Omega.{arith}
 use native.Mathlib.Nat.{zero-add}
-use borrow.Author.Tests.{leb-true, le-leb, lt-leb}
+use borrow.Author.Tests.{leb-true}
 use lib.Dec.{leb}
 use lib.ListN.{length, drop, length-append}
 use Rattle.octets.specs.Choice.{pick}
 use Rattle.octets.proofs.Pasting.{length-paste, paste-next}
+use Rattle.framing.specs.declared.next.Next.{Next}
 use Rattle.framing.specs.declared.next.Next.TheVariants.{Full, More, Over}
+use Rattle.framing.specs.declared.output.Output.{Output}
 use Rattle.framing.specs.Frames.{frame_size}
 use Rattle.framing.specs.Formats.{Format, taken, front_refused, next_of}
 use Rattle.framing.specs.Stream.{Batch, still, roomy, goes_on, extended, batch_in, batch, going, ending, turn_of, turn}
-use Rattle.framing.specs.Step.{Fitting, Puts, Batches, Turns}
+use Rattle.framing.specs.Step.{Fitting, PutsBehind, Batches, Turns}
 use Rattle.framing.proofs.Fronts.{both, taken-whole}
 use Rattle.framing.proofs.Batching.{size-within}
 
@@ -64,26 +66,16 @@ module _ (F : Format) (S : Fitting F) where
     pub same-room : length out' ≡ length out
     same-room = rw e.shows (length-paste out 0 (batch F (length out) st input).text)
 
-    pub done_written : written ≤ length out'
-    done_written = rw (same-room, e.writes) (kept (length out) st input good).text
-
     -- a line has no room
-    pub turn_full : length out' - written < F.longest → Turns F st input out used written st' Full out'
+    pub turn_full : leb (written + F.longest) (length out') ≡ false → Turns F st input out used written st' Full out'
     unfolding turn turn_of going
     turn_full h =
-        let p = batch F (length out) st input in
-        let n = e.writes in
-        let l : length out < length p.text + F.longest = omega (arith, same-room) in
-        let t = lt-leb (length p.text + F.longest) (length out) l in
+        let t : leb (length (batch F (length out) st input).text + F.longest) (length out) ≡ false = rw (← e.writes, ← same-room) h in
         record { uses = rw t e.uses; writes = rw t e.writes; state = rw t e.state; goes = rw t; shows = rw t e.shows }
 
-    module _ (enough : F.longest ≤ length out' - written) (b : Bool) (h : b ≡ front_refused F st' (drop used input)) where
+    module _ (enough : leb (written + F.longest) (length out') ≡ true) (b : Bool) (h : b ≡ front_refused F st' (drop used input)) where
       fits : leb (length (batch F (length out) st input).text + F.longest) (length out) ≡ true
-      fits =
-          let p = batch F (length out) st input in
-          let n = e.writes in
-          let m = done_written in
-          le-leb (length p.text + F.longest) (length out) (omega (arith, same-room))
+      fits = rw (← e.writes, ← same-room) enough
 
       behind : (v : Bool) → b ≡ v → front_refused F (batch F (length out) st input).state (drop (batch F (length out) st input).used input) ≡ v
       behind v t = rw (← e.uses, ← e.state) (sym h ∙ t)
@@ -97,31 +89,28 @@ module _ (F : Format) (S : Fitting F) where
           record { uses = rw (i, j) e.uses; writes = rw (i, j) e.writes; state = rw (i, j) e.state; goes = rw (i, j); shows = rw (i, j) e.shows }
 
       -- the refusal, and the end
-      module _ (n : ℕ) (out'' : List ℕ) (p : Puts (F.refusal st') out' written n out'') where
-        pub over_written : written + n ≤ length out'
-        over_written =
-            let m : n ≤ F.longest = rw p.0 (S.refusal_fits st' _ done_good) in
-            let w = done_written in
-            omega arith
+      module _ (o o' : Output) (w : o.written ≡ written) (a : o.area.now ≡ out') (puts : o.written + length (F.refusal st') ≤ length o.area.now → PutsBehind (F.refusal st') o o') where
+        put : PutsBehind (F.refusal st') o o'
+        put = puts (rw (w, a) (omega (arith, S.refusal_fits st' _ done_good, leb-true _ _ enough)))
 
-        pub turn-over : b ≡ true → Turns F st input out used (written + n) st' Over out''
+        pub turn-over : b ≡ true → Turns F st input out used o'.written st' Over o'.area.now
         unfolding turn turn_of ending
         turn-over t =
             let q = batch F (length out) st input in
             let x : F.refusal st' ≡ F.refusal q.state = ap F.refusal e.state in
             let y = fits in
             let j = behind true t in
-            let w = e.writes in
-            let m : n ≡ length (F.refusal q.state) = p.0 ∙ ap length x in
-            let o = over_written in
-            let a : 0 + length q.text ≤ length out = omega (arith, same-room) in
-            let f : 0 + length q.text + length (F.refusal q.state) ≤ length out = omega (arith, same-room) in
+            let p = put in
+            let k : length (F.refusal q.state) ≤ F.longest = rw (← x) (S.refusal_fits st' _ done_good) in
+            let r = leb-true _ _ y in
+            let g : 0 + length q.text ≤ length out = omega arith in
+            let f : 0 + length q.text + length (F.refusal q.state) ≤ length out = omega arith in
             record {
               uses = rw (y, j) e.uses;
-              writes = rw (y, j, length-append) (omega arith);
+              writes = rw (y, j, length-append) (p.writes ∙ rw (w, x, e.writes));
               state = rw (y, j) e.state;
               goes = rw (y, j);
-              shows = rw (y, j) (p.1 ∙ rw (x, e.shows, e.writes) (rw zero-add at (paste-next out 0 q.text a (F.refusal q.state) f)));
+              shows = rw (y, j) (p.shows ∙ rw (a, w, x, e.shows, e.writes) (rw zero-add at (paste-next out 0 q.text g (F.refusal q.state) f)));
             }
 
   -- what every turn keeps
@@ -135,3 +124,8 @@ module _ (F : Format) (S : Fitting F) where
       by p k false e v = (k.used, k.text, k.good)
       by p k true e true = (k.used, rw length-append (let l : length p.text + F.longest ≤ room = leb-true _ _ e in let n = S.refusal_fits p.state _ k.good in omega arith), k.good)
       by p k true e false = (k.used, k.text, k.good)
+
+  -- the output area is left so
+  pub turn_left : (st : F.Carried) (input out : List ℕ) (used written : ℕ) (st' : F.Carried) (next : Next) (out' out'' : List ℕ)
+      → Turns F st input out used written st' next out' → out'' ≡ out' → Turns F st input out used written st' next out''
+  turn_left st input out used written st' next out' out'' e h = rw h e

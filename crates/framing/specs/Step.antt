@@ -2,6 +2,7 @@
 use Rattle.std.specs.Prelude.{ℕ, ◌+◌, ◌-◌, ◌≤◌, true, List, ◌≡◌, length, drop}
 use Rattle.octets.specs.Bytes.{paste}
 use Rattle.framing.specs.declared.next.Next.{Next}
+use Rattle.framing.specs.declared.output.Output.{Output}
 use Rattle.framing.specs.Frames.{frame_size}
 use Rattle.framing.specs.Formats.{Format, taken, next_of, line_of}
 use Rattle.framing.specs.Stream.{batch, turn}
@@ -18,6 +19,11 @@ pub record Fitting (F : Format) : Type 1 where
 -- a line is put at an index of the output area: how many bytes it has, and the area behind it
 abbrev pub Puts : List ℕ → List ℕ → ℕ → ℕ → List ℕ → Type 0
 Puts line out at n out' = (n ≡ length line) × (out' ≡ paste out at line)
+
+-- a line is put behind what is written of the output
+pub record PutsBehind (line : List ℕ) (o o' : Output) : Type 0 where
+  pub writes : o'.written ≡ o.written + length line
+  pub shows : o'.area.now ≡ paste o.area.now o.written line
 
 module _ (F : Format) where
   -- the frame behind the used bytes: its line is put behind the others

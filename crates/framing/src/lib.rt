@@ -7,7 +7,7 @@ mod next;
 mod output;
 mod rest;
 
-pub use front::{Front, HEADER_SIZE, frame_size, is_frame, is_malformed, leads};
+pub use front::{Front, HEADER_SIZE, frame_size, leads};
 pub use next::Next;
-pub use output::{has_room, put};
-pub use rest::{keep, least};
+pub use output::Output;
+pub use rest::keep;

@@ -1,29 +1,41 @@
 // Lines, in the output area.
-ghost use Rattle.std.specs.Prelude.{◌≡◌, ◌+◌, leb};
-ghost use Rattle.octets.specs.Buffers.{content};
-ghost use Rattle.framing.specs.Step.{Puts};
+ghost use Rattle.std.specs.Prelude.{◌≡◌, ◌+◌, ◌≤◌, ◌<◌, leb, length};
+ghost use Rattle.framing.specs.Step.{PutsBehind};
 
-use octets::Buffer;
-
-// Whether a line of so many bytes has room behind what is written.
-pub fn has_room(written: usize, n: usize, room: usize) -> bool
-    ensures { result ≡ leb (written + n) room }
-{
-    if room < n {
-        return false;
-    }
-    if room - n < written {
-        return false;
-    }
-    true
+// The output area, and how many bytes at its front are written.
+#[derive(Drop)]
+pub struct Output<'a> {
+    pub area: &'a mut [u8],
+    pub written: usize,
 }
 
-// What the buffer holds, at an index of the output; how many bytes they are.
-pub fn put(output: &mut [u8], at: usize, b: Buffer) -> usize
-    ensures { Puts (content b) output.old at result output.new }
-{
-    let bytes = b.bytes;
-    let n = octets::size(b);
-    octets::paste(output, at, &bytes[..n]);
-    n
+impl<'a> Output<'a> {
+    // Nothing is written yet.
+    pub fn new(area: &'a mut [u8]) -> Output<'a>
+        ensures same_area { result.area.ghost_name ≡ area.entry.ghost_name }
+        ensures area { result.area.now ≡ area.old }
+        ensures written { result.written ≡ 0 }
+    {
+        Output { area, written: 0 }
+    }
+
+    // Whether a line of so many bytes has room behind what is written.
+    pub fn has_room(&self, n: usize) -> bool
+        ensures { result ≡ leb (self.now.written + n) (length self.now.area.now) }
+    {
+        self.written <= self.area.len() && n <= self.area.len() - self.written
+    }
+
+    // One line more; nothing where it has no room.
+    pub fn append(&mut self, line: &[u8])
+        ensures same_area { self.new.area.ghost_name ≡ self.old.area.ghost_name }
+        ensures puts { self.old.written + length line.now ≤ length self.old.area.now → PutsBehind line.now self.old self.new }
+        ensures full { length self.old.area.now < self.old.written + length line.now
+            → (self.new.written ≡ self.old.written) × (self.new.area.now ≡ self.old.area.now) }
+    {
+        if self.has_room(line.len()) {
+            octets::paste(self.area, self.written, line);
+            self.written += line.len();
+        }
+    }
 }

@@ -1,9 +1,10 @@
 -- How many stores a change and an installation have, and that memory stays a list of bytes. Assumes nothing.
-use mathlib.Core.Path.{◌≡◌, refl, sym, subst}
+use mathlib.Core.Path.{◌≡◌, refl, sym, ◌∙◌, subst}
 use mathlib.Core.Bool.{Bool, true, false, false≢true}
 use mathlib.Core.List.{List, [], ◌∷◌, ◌++◌}
 use mathlib.Core.Option.{some}
-use Prim.Native.Nat.{ℕ, ◌-◌, ◌<◌}
+use Rattle.std.specs.Prelude.{Option, Some, None, is_some, unwrap_or, option_map}
+use Prim.Native.Nat.{ℕ, ◌+◌, ◌-◌, ◌<◌}
 use native.Mathlib.Omega.{arith}
 use lib.ListN.{length, length-append}
 use Rattle.octets.specs.Choice.{pick}
@@ -16,6 +17,7 @@ use Rattle.stores.proofs.Sequence.{leaves-append}
 use Rattle.card.specs.declared.head.Aid.{Aid}
 use Rattle.card.specs.declared.head.Fixed.{Fixed}
 use Rattle.card.specs.declared.head.Keys.{Keys}
+use Rattle.card.specs.declared.log.Record.{Record}
 use Rattle.card.specs.declared.change.Change.{Change}
 use Rattle.card.specs.Log.{record_size, record_bytes}
 use Rattle.card.specs.Card.{Card, fresh_head, fresh}
@@ -26,34 +28,38 @@ use Rattle.card.proofs.Bytes.{record_octets}
 use Rattle.card.proofs.FreshCard.{Installable, fresh-sized, fresh_proper}
 use Rattle.card.proofs.Ranges.{Numbers, numbers}
 use Rattle.memory.specs.Layout.{magic, fixed_at, hot_at, cold_at, ring_at, next_root, slot_at}
-use Rattle.memory.specs.Structs.{fixed_bytes, hot_bytes, newest_in, filled_in, cold_size, cold_bytes}
+use Rattle.memory.specs.Structs.{fixed_size, fixed_bytes, hot_size, hot_bytes, newest_in, filled_in, cold_size, cold_bytes}
 use Rattle.memory.specs.Reading.{root_of, hot_of, size_in, read_card}
 use Rattle.memory.specs.Changes.{spare, newest_after, filled_after, hot_after, hot_piece, record_piece, cold_piece, Fills, plan, store_count, image_plan, head_plan, install_plan, install_count}
 use Rattle.memory.proofs.RoundTrip.{fixed_length, fixed_octets, hot_length, hot_octets, cold-length, cold_octets}
 use Rattle.memory.proofs.Ring.{slot_in}
 use Rattle.memory.proofs.Seen.{reads}
-use Rattle.memory.proofs.Live.{next_root_small, piece_length, hot_fits, Bounded, sound}
+use Rattle.memory.proofs.Live.{next_root_small, piece_length, logged_length, hot_fits, Bounded, sound}
 use Rattle.memory.proofs.Done.{logged-sized, grown-most}
 
 -- ---- how many stores
 
-pub plan-length : (x : Change) (m : List ℕ) → Fills x → length (plan x m) ≡ store_count x
+-- H, the record, C and the root
+pub plan_count : (x : Change) (m : List ℕ) → length (plan x m) ≡ hot_size + length (record_piece x) + length (cold_piece x) + 1
 unfolding plan
+plan_count x m = let h = hot_fits x m in simp (length-append, writes-length, h)
+
+pub plan-length : (x : Change) (m : List ℕ) → Fills x → length (plan x m) ≡ store_count x
 plan-length x m w =
-    let a = hot_fits x m in
-    let b : length (record_piece x) ≡ pick x.logs record_size 0 = piece_length x.logs (record_bytes x.logged) record_size w.logged in
+    let b : length (record_piece x) ≡ pick (is_some x.logged) record_size 0 = logged_length x.logged record_size w.logged in
     let c : length (cold_piece x) ≡ pick x.cold cold_size 0 = piece_length x.cold (cold_bytes x.head) cold_size w.cold in
-    simp (length-append, writes-length, a, b, c)
+    plan_count x m ∙ (λ i. hot_size + b i + c i + 1)
+
+-- those of an installation whose blocks have their sizes
+pub install_stores : (fixed : Fixed) (aid : Aid) (admin : Keys) → length (fixed_bytes aid fixed) ≡ fixed_size
+    → length (cold_bytes (fresh_head fixed aid admin)) ≡ cold_size → length (install_plan fixed aid admin) ≡ install_count
+unfolding install_plan head_plan image_plan writes fresh_head
+install_stores fixed aid admin x z = let y = hot_length (fresh_head fixed aid admin).state 0 0 0 in simp (length-append, writes-length, x, y, z)
 
 pub install-length : (fixed : Fixed) (aid : Aid) (admin : Keys) → Octets 16 aid.bytes → SizedKeys admin
     → length (install_plan fixed aid admin) ≡ install_count
-unfolding install_plan head_plan image_plan writes fresh_head
 install-length fixed aid admin a k =
-    let h = fresh_head fixed aid admin in
-    let x = fixed_length aid fixed a.size in
-    let y = hot_length h.state 0 0 0 in
-    let z = cold-length h (fresh-sized fixed aid admin a k) in
-    simp (length-append, writes-length, x, y, z)
+    install_stores fixed aid admin (fixed_length aid fixed a.size) (cold-length (fresh_head fixed aid admin) (fresh-sized fixed aid admin a k))
 
 -- ---- its bytes
 
@@ -67,6 +73,10 @@ then_bytes p a bytes m f g L =
 piece_bytes : (b : Bool) (bytes : List ℕ) → (b ≡ true → AreBytes bytes) → AreBytes (pick b bytes [])
 piece_bytes true bytes f = f refl
 piece_bytes false bytes f = none-bytes
+
+logged_octets : (o : Option Record) → ((r : Record) → o ≡ Some r → AreBytes (record_bytes r)) → AreBytes (unwrap_or (option_map record_bytes o) [])
+logged_octets (Some r) f = f r refl
+logged_octets None f = none-bytes
 
 module _ (x : Change) (m : List ℕ) (c : Card) (f : AreBytes m) (e : read_card m ≡ some c) (p : Proper (changed x c)) where
   abbrev r : ℕ
@@ -90,8 +100,8 @@ module _ (x : Change) (m : List ℕ) (c : Card) (f : AreBytes m) (e : read_card 
   -- state and balance afterwards are those of the change
   hot_bytes_lem : (b : Bool) → Numbers (head_after b x.head c.head) → AreBytes (hot_piece x m)
   unfolding head_after purse_after with_state with_purse with_balance hot_after
-  hot_bytes_lem true n = (hot_octets _ _ _ _ n.number n.tries (newest_byte x.logs) (filled_byte x.logs) n.balance).each
-  hot_bytes_lem false n = (hot_octets _ _ _ _ n.number n.tries (newest_byte x.logs) (filled_byte x.logs) n.balance).each
+  hot_bytes_lem true n = (hot_octets _ _ _ _ n.number n.tries (newest_byte (is_some x.logged)) (filled_byte (is_some x.logged)) n.balance).each
+  hot_bytes_lem false n = (hot_octets _ _ _ _ n.number n.tries (newest_byte (is_some x.logged)) (filled_byte (is_some x.logged)) n.balance).each
 
   cold-bytes : (b : Bool) → SizedHead (head_after b x.head c.head) → Numbers (head_after b x.head c.head) → b ≡ true → AreBytes (cold_bytes x.head)
   unfolding head_after purse_after cold_bytes
@@ -105,7 +115,7 @@ module _ (x : Change) (m : List ℕ) (c : Card) (f : AreBytes m) (e : read_card 
       (then_bytes _ (cold_at (next_root x.cold r)) (cold_piece x) m
       (then_bytes _ (slot_at (spare m)) (record_piece x) m
       (λ K. writes_bytes (hot_at (next_root x.cold r)) (hot_piece x m) K m (hot_bytes_lem x.cold after) f)
-      (piece_bytes x.logs (record_bytes x.logged) (λ q. (record_octets x.logged (logged-sized x c p q)).each)))
+      (logged_octets x.logged (λ y q. (record_octets y (logged-sized x c p y q)).each)))
       (piece_bytes x.cold (cold_bytes x.head) (cold-bytes x.cold p.sized after)))
       (byte_octets (let t = next_root_small x.cold r in omega arith)).each
 

@@ -3,6 +3,7 @@ use mathlib.Core.Path.{◌≡◌, refl, sym, ap, ◌∙◌, subst}
 use mathlib.Core.Bool.{Bool, true, false}
 use mathlib.Core.List.{List, [], ◌∷◌}
 use mathlib.Core.Option.{some}
+use Rattle.std.specs.Prelude.{Option, Some, None, is_some, unwrap_or, option_map}
 use Prim.Native.Nat.{ℕ, suc, ◌+◌, ◌-◌, ◌≤◌, ◌<◌}
 use native.Mathlib.Omega.{arith}
 use native.Mathlib.Decide.{dec_le}
@@ -14,6 +15,7 @@ use Rattle.octets.specs.Choice.{pick}
 use Rattle.octets.specs.Bytes.{byte_at, part}
 use Rattle.stores.specs.Stores.{applied}
 use Rattle.card.specs.declared.head.Head.{Head}
+use Rattle.card.specs.declared.log.Record.{Record}
 use Rattle.card.specs.declared.change.Change.{Change}
 use Rattle.card.specs.Log.{record_size, void, record_bytes, record_in}
 use Rattle.card.specs.Card.{Card}
@@ -25,7 +27,7 @@ use Rattle.card.proofs.Logs.{log_proper}
 use Rattle.memory.specs.Layout.{memory_size, magic, hot_at, cold_at, next_root, slot, slot_at}
 use Rattle.memory.specs.Structs.{hot_size, hot_bytes, newest_in, filled_in, cold_size, cold_bytes, purse_in, head_of}
 use Rattle.memory.specs.Reading.{root_of, fixed_of, hot_of, cold_of, size_in, head_in, record_at, log_in, read_card}
-use Rattle.memory.specs.Changes.{spare, grown, newest_after, filled_after, hot_after, Fills, plan}
+use Rattle.memory.specs.Changes.{spare, grown, newest_after, filled_after, hot_after, record_piece, Fills, plan}
 use Rattle.memory.proofs.RoundTrip.{state_read, balance_read, cold-length, cold_read}
 use Rattle.memory.proofs.Ring.{length-rows, rows_ext, rows_push, slot_in, slot_newest, slot_next}
 use Rattle.memory.proofs.Seen.{Seen, view, log_of, head_seen, reads, read_is, seen_of}
@@ -35,11 +37,11 @@ use Rattle.memory.proofs.Live.{next_root_small, hot_next, cold_next, Bounded, so
 -- ---- what a proper card says
 
 module _ (x : Change) (c : Card) (p : Proper (changed x c)) where
-  pub logged-sized : x.logs ≡ true → SizedRecord x.logged
+  pub logged-sized : (r : Record) → x.logged ≡ Some r → SizedRecord r
   unfolding changed log_after
-  logged-sized e =
+  logged-sized r e =
       let L = c.log in
-      subst (λ (b : Bool). (k : ℕ) → k < length (log_after b x.logged L) → SizedRecord (get_or (log_after b x.logged L) k void)) e p.each 0 (omega arith)
+      subst (λ (o : Option Record). (k : ℕ) → k < length (log_after o L) → SizedRecord (get_or (log_after o L) k void)) e p.each 0 (omega arith)
 
   after-sized : SizedHead (head_after x.cold x.head c.head)
   unfolding changed
@@ -51,7 +53,7 @@ module _ (x : Change) (c : Card) (p : Proper (changed x c)) where
 
 -- the bytes of a change to a proper card fill their places
 pub proper_fills : (x : Change) (c : Card) → Proper (changed x c) → Fills x
-proper_fills x c p = record { logged = λ e. (record_octets x.logged (logged-sized x c p e)).size; cold = cold_fills x c p }
+proper_fills x c p = record { logged = λ r e. (record_octets r (logged-sized x c p r e)).size; cold = cold_fills x c p }
 
 -- one record more shows the records as they were, each one place later
 grown-shows : (n g k : ℕ) → g ≤ n → suc k < n → ltb (suc k) (grown n g) ≡ ltb k g
@@ -113,7 +115,7 @@ module _ (x : Change) (m : List ℕ) (c : Card) (e : read_card m ≡ some c) (p 
   unfolding head_in
   was = head-is m c e
 
-  hot_live : part m' (hot_at (next_root x.cold r)) hot_size ≡ hot x.logs
+  hot_live : part m' (hot_at (next_root x.cold r)) hot_size ≡ hot (is_some x.logged)
   unfolding hot_after
   hot_live = ap (λ (t : ℕ). part m' t hot_size) (hot_next x.cold r) ∙ hot_new m f x w
 
@@ -128,10 +130,10 @@ module _ (x : Change) (m : List ℕ) (c : Card) (e : read_card m ≡ some c) (p 
 
   -- ---- the head
 
-  head-after : (b : Bool) → SizedHead (head_after b X c.head) → head_of (fixed_of m) (hot x.logs) (cold b) ≡ head_after b X c.head
+  head-after : (b : Bool) → SizedHead (head_after b X c.head) → head_of (fixed_of m) (hot (is_some x.logged)) (cold b) ≡ head_after b X c.head
   unfolding head_of purse_in head_after purse_after with_state with_purse with_balance cold_bytes
   head-after true z =
-      cold_read (head_after true X c.head) z (fixed_of m) (hot x.logs)
+      cold_read (head_after true X c.head) z (fixed_of m) (hot (is_some x.logged))
       ∙ (λ i. record {
         fixed = (was i).fixed;
         shared = X.shared;
@@ -141,10 +143,10 @@ module _ (x : Change) (m : List ℕ) (c : Card) (e : read_card m ≡ some c) (p 
               parameters = X.purse.parameters;
               debit = X.purse.debit;
               credit = X.purse.credit;
-              balance = balance_read X.state (newest_after x.logs m) (filled_after x.logs m) X.purse.balance i;
+              balance = balance_read X.state (newest_after (is_some x.logged) m) (filled_after (is_some x.logged) m) X.purse.balance i;
             };
         pin = X.pin;
-        state = state_read X.state (newest_after x.logs m) (filled_after x.logs m) X.purse.balance i;
+        state = state_read X.state (newest_after (is_some x.logged) m) (filled_after (is_some x.logged) m) X.purse.balance i;
       })
   head-after false z =
       λ i. record {
@@ -156,10 +158,10 @@ module _ (x : Change) (m : List ℕ) (c : Card) (e : read_card m ≡ some c) (p 
               parameters = (was i).purse.parameters;
               debit = (was i).purse.debit;
               credit = (was i).purse.credit;
-              balance = balance_read X.state (newest_after x.logs m) (filled_after x.logs m) X.purse.balance i;
+              balance = balance_read X.state (newest_after (is_some x.logged) m) (filled_after (is_some x.logged) m) X.purse.balance i;
             };
         pin = (was i).pin;
-        state = state_read X.state (newest_after x.logs m) (filled_after x.logs m) X.purse.balance i;
+        state = state_read X.state (newest_after (is_some x.logged) m) (filled_after (is_some x.logged) m) X.purse.balance i;
       }
 
   -- ---- the log
@@ -176,27 +178,28 @@ module _ (x : Change) (m : List ℕ) (c : Card) (e : read_card m ≡ some c) (p 
   was_long = sym (length-rows n (record_at m)) ∙ ap length (log_is m c e)
 
   -- the new record, then those before it but the oldest
-  log_grows : x.logs ≡ true → log_of m' (fixed_of m) (hot true) ≡ x.logged ∷ take (length c.log - 1) c.log
+  log_grows : (y : Record) → x.logged ≡ Some y → log_of m' (fixed_of m) (hot true) ≡ y ∷ take (length c.log - 1) c.log
   unfolding log_in record_at hot_bytes
-  log_grows q =
-      let l : length (pick x.logs (record_bytes x.logged) []) ≡ record_size = rw q (w.logged q) in
-      let first : record_in (part m' (slot_at (slot n (spare m) 0)) record_size) ≡ x.logged =
+  log_grows y q =
+      let P : Option Record → List ℕ = λ o. unwrap_or (option_map record_bytes o) [] in
+      let l : length (record_piece x) ≡ record_size = ap (λ (o : Option Record). length (P o)) q ∙ w.logged y q in
+      let first : record_in (part m' (slot_at (slot n (spare m) 0)) record_size) ≡ y =
       ap (λ (j : ℕ). record_in (part m' (slot_at j) record_size)) (slot_newest n (spare m))
-      ∙ ap record_in (slot_new m f x w l ∙ ap (λ (b : Bool). pick b (record_bytes x.logged) []) q)
-      ∙ record_read x.logged (logged-sized x c p q)
+      ∙ ap record_in (slot_new m f x w l ∙ ap P q)
+      ∙ record_read y (logged-sized x c p y q)
       in
-      rows_push n (record_at m) (λ k. pick (ltb k (grown n g)) (record_in (part m' (slot_at (slot n (spare m) k)) record_size)) void) x.logged f.some
+      rows_push n (record_at m) (λ k. pick (ltb k (grown n g)) (record_in (part m' (slot_at (slot n (spare m) k)) record_size)) void) y f.some
       (rw (lt-ltb 0 (grown n g) (grown_some n g f.some)) first)
       (λ k u.
       ap (λ (b : Bool). pick b (record_in (part m' (slot_at (slot n (spare m) (suc k))) record_size)) void) (grown-shows n g k f.filled u)
       ∙ ap (λ (j : ℕ). pick (ltb k g) (record_in (part m' (slot_at j) record_size)) void) (slot_next n (newest_in (hot_of m)) k f.newest (omega arith))
       ∙ ap (λ (t : List ℕ). pick (ltb k g) (record_in t) void) (slot_stays m f x w k (omega arith)))
-      ∙ (λ i. x.logged ∷ take (was_long i - 1) (log_is m c e i))
+      ∙ (λ i. y ∷ take (was_long i - 1) (log_is m c e i))
 
-  log-after : (b : Bool) → x.logs ≡ b → log_of m' (fixed_of m) (hot b) ≡ log_after b x.logged c.log
+  log-after : (o : Option Record) → x.logged ≡ o → log_of m' (fixed_of m) (hot (is_some o)) ≡ log_after o c.log
   unfolding log_after
-  log-after true q = log_grows q
-  log-after false q = log_stays
+  log-after (Some y) q = log_grows y q
+  log-after None q = log_stays
 
   -- ---- the whole
 
@@ -219,21 +222,21 @@ module _ (x : Change) (m : List ℕ) (c : Card) (e : read_card m ≡ some c) (p 
         magic = magic;
         root = next_root x.cold r;
         fixed = fixed_of m;
-        hot = hot x.logs;
+        hot = hot (is_some x.logged);
         cold = cold x.cold;
-        log = log_of m' (fixed_of m) (hot x.logs);
+        log = log_of m' (fixed_of m) (hot (is_some x.logged));
       }
       in
       let h : head_seen s ≡ (changed x c).head = head-after x.cold p.sized in
-      let l : s.log ≡ (changed x c).log = log-after x.logs refl in
+      let l : s.log ≡ (changed x c).log = log-after x.logged refl in
       read_is m' s (changed x c)
       (seen_of m' s (after-length m f x w) (after-magic m f x w ∙ was_magic) (after_root m f x w) (fixed_stays m f x w) hot_live cold_live refl)
       (record {
         size = refl;
         magic = refl;
         root = next_root_small x.cold r;
-        newest = newest_after_lem x.logs;
-        filled = filled_after_lem x.logs;
+        newest = newest_after_lem (is_some x.logged);
+        filled = filled_after_lem (is_some x.logged);
         log = (λ i. log_ok (h i).purse.parameters.personalized (l i)) ∙ log_proper (changed x c) p;
       })
       h l p.tests

@@ -3,6 +3,7 @@ use mathlib.Core.Path.{◌≡◌, refl, ap, ◌∙◌}
 use mathlib.Core.Logic.{◌≢◌}
 use mathlib.Core.Bool.{Bool, true, false}
 use mathlib.Core.List.{List, [], ◌++◌, append_assoc}
+use Rattle.std.specs.Prelude.{Option, Some, None, is_some, unwrap_or, option_map}
 use Prim.Native.Nat.{ℕ, ◌+◌, ◌*◌, ◌/◌, ◌%◌, ◌≤◌, ◌<◌}
 use native.Mathlib.Omega.{arith}
 use lib.ListN.{length}
@@ -12,6 +13,7 @@ use Rattle.octets.specs.Bytes.{byte_at, part}
 use Rattle.stores.specs.Stores.{Store, applied, writes, Out, OnlyAt}
 use Rattle.stores.proofs.Plans.{applied-length, applied-append, only-append, only-writes}
 use Rattle.stores.proofs.Parts.{part-applied, byte_applied, part-writes}
+use Rattle.card.specs.declared.log.Record.{Record}
 use Rattle.card.specs.declared.change.Change.{Change}
 use Rattle.card.specs.Log.{record_size, record_bytes}
 use Rattle.card.specs.Card.{Card}
@@ -50,13 +52,19 @@ pub piece_length : (b : Bool) (bytes : List ℕ) (n : ℕ) → (b ≡ true → l
 piece_length true bytes n f = f refl
 piece_length false bytes n f = refl
 
-piece_fits : (b : Bool) (bytes : List ℕ) (n : ℕ) → (b ≡ true → length bytes ≡ n) → length (pick b bytes []) ≤ n
-piece_fits true bytes n f = let e = f refl in omega arith
-piece_fits false bytes n f = omega arith
+-- the same of a log record
+pub logged_length : (o : Option Record) (n : ℕ) → ((r : Record) → o ≡ Some r → length (record_bytes r) ≡ n)
+    → length (unwrap_or (option_map record_bytes o) []) ≡ pick (is_some o) n 0
+logged_length (Some r) n f = f r refl
+logged_length None n f = refl
+
+pick_most : (b : Bool) (n : ℕ) → pick b n 0 ≤ n
+pick_most true n = omega arith
+pick_most false n = omega arith
 
 pub hot_fits : (x : Change) (m : List ℕ) → length (hot_piece x m) ≡ hot_size
 unfolding hot_after
-hot_fits x m = hot_length x.head.state (newest_after x.logs m) (filled_after x.logs m) x.head.purse.balance
+hot_fits x m = hot_length x.head.state (newest_after (is_some x.logged) m) (filled_after (is_some x.logged) m) x.head.purse.balance
 
 -- its stores before the root's
 abbrev pub body : Change → List ℕ → List Store
@@ -145,12 +153,14 @@ module _ (m : List ℕ) (f : Bounded m) (x : Change) (w : Fills x) where
 
   only-slot : (P : ℕ → Type 0) → ((i : ℕ) → S ≤ i → i < S + record_size → P i) → OnlyAt P D
   only-slot P a =
-      let l = piece_fits x.logs (record_bytes x.logged) record_size w.logged in
+      let l = logged_length x.logged record_size w.logged in
+      let k = pick_most (is_some x.logged) record_size in
       only-writes P S (record_piece x) (λ i p q. a i p (omega arith))
 
   only-cold : (P : ℕ → Type 0) → ((i : ℕ) → C ≤ i → i < C + cold_size → P i) → OnlyAt P B
   only-cold P a =
-      let l = piece_fits x.cold (cold_bytes x.head) cold_size w.cold in
+      let l = piece_length x.cold (cold_bytes x.head) cold_size w.cold in
+      let k = pick_most x.cold cold_size in
       only-writes P C (cold_piece x) (λ i p q. a i p (omega arith))
 
   only_body : (P : ℕ → Type 0) → ((i : ℕ) → H ≤ i → i < H + hot_size → P i) → ((i : ℕ) → S ≤ i → i < S + record_size → P i)

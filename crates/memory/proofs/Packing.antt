@@ -1,40 +1,40 @@
--- The bytes of a struct, pasted piece by piece into an area of its size. Assumes nothing.
-use mathlib.Core.Path.{◌≡◌, ap, ◌∙◌}
-use mathlib.Core.List.{List, [], ◌∷◌, append_assoc, append-nil}
-use Prim.Native.Nat.{ℕ, ◌+◌}
+-- The bytes of a struct, piece by piece. Assumes nothing.
+use mathlib.Core.Path.{◌≡◌, refl, sym, ap, ◌∙◌}
+use mathlib.Core.List.{List, [], ◌∷◌, ◌++◌, append_assoc, append-nil}
+use Prim.Native.Nat.{ℕ, ◌+◌, ◌≤◌, ◌<◌}
 use native.Mathlib.Omega.{arith}
-use lib.ListN.{length}
+use lib.ListN.{length, get_or, take, drop, length-append, take-append-drop}
+use Rattle.std.proofs.Common.{Bor, map}
+use Rattle.std.proofs.lemmas.List.{take_more}
 use Rattle.octets.specs.Bytes.{paste}
+use Rattle.octets.proofs.Pasting.{take_pasted}
 use Rattle.stores.specs.Fields.{joined}
-use Rattle.card.specs.declared.head.Keys.{Keys}
-use Rattle.card.specs.Keys.{key_bytes}
-use Rattle.memory.proofs.Places.{pasted_joined}
 
--- two pieces
-pub two : (a b s s₁ s₂ : List ℕ) (v w : ℕ) → length a ≡ v → length b ≡ w → length s ≡ v + w → s₁ ≡ paste s 0 a → s₂ ≡ paste s₁ (0 + v) b
-    → s₂ ≡ joined (a ∷ b ∷ [])
-two a b s s₁ s₂ v w p q l e₁ e₂ =
-    e₂ ∙ ap (λ (t : List ℕ). paste t (0 + v) b) e₁
-    ∙ pasted_joined (v ∷ w ∷ []) (a ∷ b ∷ []) 0 s (p, (q, tt)) (let x = l in omega arith)
+joined-append : (fs gs : List (List ℕ)) → joined (fs ++ gs) ≡ joined fs ++ joined gs
+joined-append [] gs = refl
+joined-append (f ∷ fs) gs = rw (joined-append fs gs, append_assoc)
 
--- three
-pub three : (a b c s s₁ s₂ s₃ : List ℕ) (u v w : ℕ) → length a ≡ u → length b ≡ v → length c ≡ w → length s ≡ u + v + w
-    → s₁ ≡ paste s 0 a → s₂ ≡ paste s₁ (0 + u) b → s₃ ≡ paste s₂ (0 + u + v) c → s₃ ≡ joined (a ∷ b ∷ c ∷ [])
-three a b c s s₁ s₂ s₃ u v w p q r l e₁ e₂ e₃ =
-    e₃ ∙ ap (λ (t : List ℕ). paste t (0 + u + v) c) (e₂ ∙ ap (λ (t : List ℕ). paste t (0 + u) b) e₁)
-    ∙ pasted_joined (u ∷ v ∷ w ∷ []) (a ∷ b ∷ c ∷ []) 0 s (p, (q, (r, tt))) (let x = l in omega arith)
+-- the pieces before the i-th, and it
+module _ (fs : List (List ℕ)) (i : ℕ) (h : i < length fs) where
+  joined_more : joined (take (i + 1) fs) ≡ joined (take i fs) ++ get_or fs i []
+  joined_more = rw (take_more fs i [] h, joined-append, append-nil)
 
--- five
-pub five : (a b c d e s s₁ s₂ s₃ s₄ s₅ : List ℕ) (t u v w x : ℕ) → length a ≡ t → length b ≡ u → length c ≡ v → length d ≡ w → length e ≡ x
-    → length s ≡ t + u + v + w + x → s₁ ≡ paste s 0 a → s₂ ≡ paste s₁ (0 + t) b → s₃ ≡ paste s₂ (0 + t + u) c → s₄ ≡ paste s₃ (0 + t + u + v) d
-    → s₅ ≡ paste s₄ (0 + t + u + v + w) e → s₅ ≡ joined (a ∷ b ∷ c ∷ d ∷ e ∷ [])
-five a b c d e s s₁ s₂ s₃ s₄ s₅ t u v w x la lb lc ld le l e₁ e₂ e₃ e₄ e₅ =
-    e₅
-    ∙ ap (λ (z : List ℕ). paste z (0 + t + u + v + w) e)
-    (e₄ ∙ ap (λ (z : List ℕ). paste z (0 + t + u + v) d) (e₃ ∙ ap (λ (z : List ℕ). paste z (0 + t + u) c) (e₂ ∙ ap (λ (z : List ℕ). paste z (0 + t) b) e₁)))
-    ∙ pasted_joined (t ∷ u ∷ v ∷ w ∷ x ∷ []) (a ∷ b ∷ c ∷ d ∷ e ∷ []) 0 s (la, (lb, (lc, (ld, (le, tt))))) (let y = l in omega arith)
+  joined_fits : length (joined (take (i + 1) fs)) ≤ length (joined fs)
+  joined_fits =
+      let e : joined fs ≡ joined (take (i + 1) fs) ++ joined (drop (i + 1) fs) =
+      ap joined (sym (take-append-drop (i + 1) fs)) ∙ joined-append (take (i + 1) fs) (drop (i + 1) fs) in
+      omega (arith, simp length-append at (ap length e))
 
--- three keys
-pub keys-joined : (k : Keys) → joined (k.enc ∷ k.mac ∷ k.dek ∷ []) ≡ key_bytes k
-unfolding key_bytes
-keys-joined k = simp (append_assoc, append-nil)
+  -- one piece more in front
+  pub piece_laid : (at : ℕ) (s : List ℕ) → length (joined fs) ≡ length s → at ≡ length (joined (take i fs)) → take at s ≡ joined (take i fs)
+      → (at + length (get_or fs i []) ≡ length (joined (take (i + 1) fs)))
+      × (take (at + length (get_or fs i [])) (paste s at (get_or fs i [])) ≡ joined (take (i + 1) fs))
+  piece_laid at s l a e =
+      let f = get_or fs i [] in
+      let n : at + length f ≡ length (joined (take (i + 1) fs)) = omega (arith, simp length-append at (ap length joined_more)) in
+      let b = joined_fits in
+      (n, take_pasted s at f (omega arith) ∙ ap (λ (t : List ℕ). t ++ f) e ∙ sym joined_more)
+
+-- what references point to
+abbrev pub pointed : List (Bor (List ℕ)) → List (List ℕ)
+pointed ps = map (λ p. p.now) ps

@@ -1,6 +1,6 @@
 -- How a card changes in memory. A change stores into what is not live, and the root last, so that a cut run reads as before and
 -- a finished one as the changed card. Assumes nothing.
-use Rattle.std.specs.Prelude.{Bool, true, List, [], ◌∷◌, ◌++◌, ◌≡◌, ℕ, suc, ◌+◌, ◌-◌, ltb, length, get_or}
+use Rattle.std.specs.Prelude.{Bool, true, Some, is_some, unwrap_or, option_map, List, [], ◌∷◌, ◌++◌, ◌≡◌, ℕ, suc, ◌+◌, ◌-◌, ltb, length, get_or}
 use Rattle.octets.specs.Choice.{pick}
 use Rattle.octets.specs.Bytes.{zeros}
 use Rattle.stores.specs.Stores.{Store, applied, writes}
@@ -42,11 +42,11 @@ hot_after s balance logs m = hot_bytes s (newest_after logs m) (filled_after log
 
 -- block H
 abbrev pub hot_piece : Change → List ℕ → List ℕ
-hot_piece x m = hot_after x.head.state x.head.purse.balance x.logs m
+hot_piece x m = hot_after x.head.state x.head.purse.balance (is_some x.logged) m
 
 -- the log record, where it logs
 abbrev pub record_piece : Change → List ℕ
-record_piece x = pick x.logs (record_bytes x.logged) []
+record_piece x = unwrap_or (option_map record_bytes x.logged) []
 
 -- block C, where it is written
 abbrev pub cold_piece : Change → List ℕ
@@ -54,7 +54,7 @@ cold_piece x = pick x.cold (cold_bytes x.head) []
 
 -- the bytes of a change fill their places, as those of the structs do
 pub record Fills (x : Change) : Type 0 where
-  pub logged : x.logs ≡ true → length (record_bytes x.logged) ≡ record_size
+  pub logged : (r : Record) → x.logged ≡ Some r → length (record_bytes r) ≡ record_size
   pub cold : x.cold ≡ true → length (cold_bytes x.head) ≡ cold_size
 
 -- ---- its stores
@@ -71,7 +71,7 @@ plan x m =
 
 -- how many stores a change has
 abbrev pub store_count : Change → ℕ
-store_count x = hot_size + pick x.logs record_size 0 + pick x.cold cold_size 0 + 1
+store_count x = hot_size + pick (is_some x.logged) record_size 0 + pick x.cold cold_size 0 + 1
 
 -- ---- a whole card, H and C in their first copies: the magic byte goes first and comes last
 

@@ -1,6 +1,7 @@
 -- The card that memory reads as: document 01, "Readable", and document 02, request 4: "Memory written before this change is read as no
 -- card." The reading depends on the 4,096 bytes alone. Assumes nothing.
-use Rattle.std.specs.Prelude.{Bool, true, false, List, [], ◌∷◌, ◌++◌, ℕ, zero, suc, ltb, leb, eqb, length}
+use Rattle.std.specs.Prelude as std
+use Rattle.std.specs.Prelude.{Bool, List, [], ◌∷◌, ◌++◌, ℕ, zero, suc, ltb, leb, eqb, length}
 use Rattle.std.proofs.Math.Option.{Option, none, some}
 use Rattle.octets.specs.Choice.{pick}
 use Rattle.octets.specs.Tests.{all_true}
@@ -8,9 +9,8 @@ use Rattle.octets.specs.Bytes.{byte_at, part}
 use Rattle.card.specs.declared.head.Head.{Head}
 use Rattle.card.specs.declared.log.Record.{Record}
 use Rattle.card.specs.Log.{record_size, void, record_in}
-use Rattle.card.specs.Card.{Card, no_fixed, no_aid, no_keys, fresh_head}
+use Rattle.card.specs.Card.{Card}
 use Rattle.card.specs.Proper.{proper_tests, log_ok}
-use Rattle.memory.specs.declared.reading.Reading.{Reading}
 use Rattle.memory.specs.Layout.{memory_size, magic, root_at, fixed_at, hot_at, cold_at, slot, slot_at}
 use Rattle.memory.specs.Structs.{fixed_size, fixed_in, hot_size, newest_in, filled_in, cold_size, head_of}
 
@@ -76,10 +76,6 @@ readable m = all_true (formed_tests m ++ proper_tests (head_in m))
 unfoldable pub read_card : List ℕ → Option Card
 read_card m = pick (readable m) (some (record { head = head_in m; log = log_in m })) none
 
--- no card, as the code hands it back
-abbrev pub no_card : Reading
-no_card = record { ok = false; head = fresh_head no_fixed no_aid no_keys }
-
--- what the code hands back: whether there is a card, and its head
-unfoldable pub reading : List ℕ → Reading
-reading m = pick (readable m) (record { ok = true; head = head_in m }) no_card
+-- what the code hands back: the head of the card, if there is one
+unfoldable pub reading : List ℕ → std.Option Head
+reading m = pick (readable m) (std.Some (head_in m)) std.None

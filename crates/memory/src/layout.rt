@@ -1,6 +1,8 @@
 // Where the parts of a card lie under a root.
 ghost use Rattle.std.specs.Prelude.{◌≡◌, ◌<◌};
-ghost use Rattle.memory.specs.Layout.{hot_at, cold_at, next_root, slot};
+ghost use Rattle.memory.specs.Layout.{hot_at, cold_at, next_root, slot, slot_at};
+
+use card::log::RECORD_SIZE;
 
 pub const MEMORY_SIZE: usize = 4096;
 
@@ -10,7 +12,7 @@ pub const ROOT_AT: usize = 1;
 
 pub const FIXED_AT: usize = 2;
 
-pub const RING_AT: usize = 2048;
+const RING_AT: usize = 2048;
 
 // The live copy of H.
 pub fn hot_at(root: u8) -> usize
@@ -30,33 +32,40 @@ pub fn cold_at(root: u8) -> usize
 pub fn next_root(cold: bool, root: u8) -> u8
     ensures { result ≡ next_root cold root }
 {
-    if cold {
-        return (1 - root / 2 % 2) * 2 + (1 - root % 2);
-    }
-    root / 2 % 2 * 2 + (1 - root % 2)
+    let live = root / 2 % 2;
+    let copy = if cold { 1 - live } else { live };
+    copy * 2 + (1 - root % 2)
 }
 
 // The slot of the record that `k` newer ones follow.
+#[tactic(auto, unfolding(crate::specs::Layout::slot))]
 pub fn slot(size: u8, newest: u8, k: usize) -> usize
     ensures { (result ≡ slot size newest k) × (result < 512) }
 {
-    let n = newest as usize;
-    let end = n + size as usize + 1;
-    if k <= n {
-        return n - k;
+    let newest = newest as usize;
+    if k <= newest {
+        newest - k
+    } else {
+        (newest + size as usize + 1).saturating_sub(k)
     }
-    if end <= k {
-        return 0;
-    }
-    end - k
 }
 
 // The spare slot, which the next record takes.
+#[tactic(auto, unfolding(crate::specs::Layout::slot))]
 pub fn spare(size: u8, newest: u8) -> u8
     ensures { result ≡ slot size newest size }
 {
     if size <= newest {
-        return newest - size;
+        newest - size
+    } else {
+        newest + 1
     }
-    newest + 1
+}
+
+// Where a slot starts.
+pub fn slot_at(j: usize) -> usize
+    requires { j < 512 }
+    ensures { result ≡ slot_at j }
+{
+    RING_AT + RECORD_SIZE * j
 }

@@ -12,4 +12,4 @@ mod structs;
 pub use changing::commit;
 pub use installing::install;
 pub use layout::MEMORY_SIZE;
-pub use reading::{Reading, read, record_at};
+pub use reading::{read, record_at};

@@ -2,28 +2,29 @@
 ghost use Rattle.std.specs.Prelude.{◌≡◌};
 ghost use Rattle.octets.specs.Buffers.{appended};
 ghost use Rattle.octets.specs.Words.{word};
+ghost use Rattle.apdu.specs.Refusals.{refusal_word};
 ghost use Rattle.card.specs.Log.{void};
 ghost use Rattle.commands_spec.specs.Outcomes.{refused};
 
-use card::Head;
-use card::log::void;
+use apdu::Refusal;
+use card::{Head, Record};
 use commands_spec::{Commits, Outcome};
-use octets::{Buffer, append_word, empty};
+use octets::Buffer;
 use session::Session;
 
 // A status word alone, on a card as it was.
-pub fn refused(head: Head, session: Session, w: u16) -> Outcome
-    ensures { result ≡ refused head session w }
+#[tactic(auto, using(octets::proofs::Holding::of_piece), unfolding(commands_spec::specs::Outcomes::refused))]
+pub fn refused(head: Head, session: Session, refusal: Refusal) -> Outcome
+    ensures { result ≡ refused head session (refusal_word refusal) }
 {
-    let logged = void();
-    let reply = append_word(empty(), w);
+    let status = u16::from(refusal);
     Outcome {
-        status: w,
+        status,
         commits: Commits::Unchanged,
-        head: head,
-        logged: logged,
-        reply: reply,
-        session: session,
+        head,
+        logged: Record::void(),
+        reply: Buffer::of(&status.to_be_bytes()),
+        session,
     }
 }
 
@@ -38,14 +39,14 @@ pub fn done(commits: Commits, head: Head, session: Session, answer: Buffer) -> O
       session = session;
     } }
 {
-    let logged = void();
-    let reply = append_word(answer, 0x9000);
+    let mut reply = answer;
+    reply.append(&[0x90, 0x00]);
     Outcome {
         status: 0x9000,
-        commits: commits,
-        head: head,
-        logged: logged,
-        reply: reply,
-        session: session,
+        commits,
+        head,
+        logged: Record::void(),
+        reply,
+        session,
     }
 }

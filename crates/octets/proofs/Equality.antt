@@ -15,7 +15,6 @@ fails true h = absurd (h refl)
 fails false h = refl
 
 pub same_refl : (a : List ℕ) → same a a ≡ true
-unfolding same
 same_refl [] = refl
 same_refl (x ∷ a) = rw (eq-eqb x x refl) (same_refl a)
 
@@ -23,7 +22,6 @@ pub equal_same : (a b : List ℕ) → a ≡ b → same a b ≡ true
 equal_same a b e = rw (← e) (same_refl a)
 
 pub same_equal : (a b : List ℕ) → same a b ≡ true → a ≡ b
-unfolding same
 same_equal [] [] e = refl
 same_equal [] (y ∷ b) e = absurd (false≢true e)
 same_equal (x ∷ a) [] e = absurd (false≢true e)
@@ -44,19 +42,24 @@ bytes_same a b e f = equal_same a b (ext_get_or 0 a b e f)
 pub byte_differs : (a b : List ℕ) (i : ℕ) → (byte_at a i ≡ byte_at b i → ⊥) → same a b ≡ false
 byte_differs a b i h = differ_same a b (λ e. h (ap (λ (x : List ℕ). byte_at x i) e))
 
+-- zero bytes are as many zeros
+pub all-zero-same : (s : List ℕ) → all_zero s ≡ same s (zeros (length s))
+all-zero-same [] = refl
+all-zero-same (x ∷ s) = ap (λ t. eqb x 0 && t) (all-zero-same s)
+
 pub zeros_zero : (n : ℕ) → all_zero (zeros n) ≡ true
-unfolding all_zero
-zeros_zero n = equal_same (zeros n) (zeros (length (zeros n))) (ap zeros (sym (length-replicate {A = ℕ} n 0)))
+zeros_zero n =
+    all-zero-same (zeros n)
+    ∙ equal_same (zeros n) (zeros (length (zeros n))) (ap zeros (sym (length-replicate {A = ℕ} n 0)))
 
 pub zero_zeros : (s : List ℕ) → all_zero s ≡ true → s ≡ zeros (length s)
-unfolding all_zero
-zero_zeros s e = same_equal s (zeros (length s)) e
+zero_zeros s e = same_equal s (zeros (length s)) (sym (all-zero-same s) ∙ e)
 
 pub bytes_zero : (s : List ℕ) → ((i : ℕ) → i < length s → byte_at s i ≡ 0) → all_zero s ≡ true
-unfolding all_zero
 bytes_zero s f =
-    bytes_same s (zeros (length s)) (sym (length-replicate {A = ℕ} (length s) 0)) (λ i h. f i h ∙ sym (get_or-replicate (length s) i 0 0 h))
+    all-zero-same s
+    ∙ bytes_same s (zeros (length s)) (sym (length-replicate {A = ℕ} (length s) 0)) (λ i h. f i h ∙ sym (get_or-replicate (length s) i 0 0 h))
 
 pub byte_not_zero : (s : List ℕ) (i : ℕ) → i < length s → (byte_at s i ≡ 0 → ⊥) → all_zero s ≡ false
-unfolding all_zero
-byte_not_zero s i h f = byte_differs s (zeros (length s)) i (λ e. f (e ∙ get_or-replicate (length s) i 0 0 h))
+byte_not_zero s i h f =
+    all-zero-same s ∙ byte_differs s (zeros (length s)) i (λ e. f (e ∙ get_or-replicate (length s) i 0 0 h))

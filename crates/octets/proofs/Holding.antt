@@ -69,3 +69,7 @@ held {b} {x} {n} h =
     ap (λ (q : Buffer). field q.bytes 0 n) h.is
     ∙ field-part (x ++ z) 0 n (rw length-append (omega arith))
     ∙ take_at x z n k
+
+-- one piece alone
+pub of_piece : (p : List ℕ) → length p ≤ capacity → appended (holding []) p ≡ holding p
+of_piece p h = appended-holding [] p (omega arith)

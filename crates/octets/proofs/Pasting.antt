@@ -1,5 +1,5 @@
 -- One byte string over another: what is left as it was, what is new, and two pieces in a row. Assumes nothing.
-use Prim.Native.Nat.{ℕ, ◌+◌, ◌-◌, ◌≤◌, ◌<◌}
+use Prim.Native.Nat.{ℕ, ◌+◌, ◌-◌, ◌≤◌, ◌<◌, min}
 use mathlib.Core.Path.{◌≡◌, refl, sym, ap, ◌∙◌}
 use mathlib.Core.List.{List, [], ◌++◌, append-nil, append_assoc}
 use native.Mathlib.Omega.{arith}
@@ -7,9 +7,9 @@ use native.Mathlib.Decide.{dec_le}
 use native.Mathlib.Nat.{lt_of_not-le, zero-add, add-zero}
 use borrow.Author.Tests.{le-leb, lt-leb}
 use lib.ListN.{length, take, drop, length-append, length-drop, length-replicate, drop_of_length-le, take-append-drop}
-use lib.Seq.{take_at, drop_at, drop-drop, length-take-le, sets, sets-eq}
+use lib.Seq.{take_at, take_all, drop_at, drop-drop, length-take-le, sets, sets-eq}
 use Rattle.octets.specs.Bytes.{zeros, part, field, paste}
-use Rattle.octets.proofs.Parts.{part-between, field_end, drop-zeros}
+use Rattle.octets.proofs.Parts.{length_part, field-part, part-between, field_end, drop-zeros}
 
 pub paste_fits : (d : List ℕ) (at : ℕ) (s : List ℕ) → at + length s ≤ length d → paste d at s ≡ take at d ++ s ++ drop (at + length s) d
 unfolding paste
@@ -52,6 +52,20 @@ paste-field s at n h k =
     let l : length (drop at s) ≡ length s - at = length-drop at s in
     let g : length (drop at s) ≤ length (zeros n) = rw (length-replicate {A = ℕ} n 0) (omega arith) in
     paste_front (zeros n) (drop at s) g ∙ rw (l, drop-zeros n (length s - at) k) (field_end s at n h k)
+
+-- as much of the rest as there is room for, over zeros
+pub rest_over_zeros : (s : List ℕ) (at n m : ℕ) → at ≤ length s → m ≡ min n (length s - at) → paste (zeros n) 0 (take m (drop at s)) ≡ field s at n
+rest_over_zeros s at n m h e = elim (dec_le n (length s - at)) [ yes g ↦ inside g | no g ↦ over (lt_of_not-le g) ]
+  where
+    inside : n ≤ length s - at → paste (zeros n) 0 (take m (drop at s)) ≡ field s at n
+    inside g =
+        let k : m ≡ n = omega arith in
+        let l : length (part s at n) ≡ n = length_part s at n (omega arith) in
+        rw k (paste-whole (zeros n) (part s at n) (l ∙ sym (length-replicate {A = ℕ} n 0)))
+        ∙ sym (field-part s at n (omega arith))
+
+    over : length s - at < n → paste (zeros n) 0 (take m (drop at s)) ≡ field s at n
+    over g = rw (take_all m (drop at s) (rw length-drop (omega arith))) (paste-field s at n h (omega arith))
 
 pub paste-nothing : (d : List ℕ) (at : ℕ) → paste d at [] ≡ d
 paste-nothing d at = elim (dec_le (at + 0) (length d)) [ yes h ↦ fits h | no h ↦ paste_past d at [] (lt_of_not-le h) ]

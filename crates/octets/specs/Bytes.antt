@@ -1,5 +1,7 @@
 -- Byte strings: their parts, one laid over another, and the tests on them. A byte string is a list of numbers. Assumes nothing.
-use Rattle.std.specs.Prelude.{ℕ, ◌+◌, ◌<◌, Bool, true, false, ◌&&◌, List, [], ◌∷◌, ◌++◌, ◌≡◌, leb, eqb, length, get_or, take, drop, replicate}
+use Rattle.std.specs.Prelude.{ℕ, ◌+◌, ◌<◌, Bool, List, ◌++◌, ◌≡◌, leb, eqb, length, get_or, take, drop, replicate}
+use Rattle.std.specs.List.{list_all}
+use Rattle.std.specs.Str.{bytes_eq}
 use Rattle.octets.specs.Choice.{pick}
 
 -- each number of s is a byte
@@ -35,12 +37,9 @@ paste d at s =
     d
 
 -- whether two byte strings are equal
-unfoldable pub same : List ℕ → List ℕ → Bool
-same [] [] = true
-same [] (y ∷ b) = false
-same (x ∷ a) [] = false
-same (x ∷ a) (y ∷ b) = eqb x y && same a b
+abbrev pub same : List ℕ → List ℕ → Bool
+same a b = bytes_eq a b
 
 -- whether all bytes are zero
-unfoldable pub all_zero : List ℕ → Bool
-all_zero s = same s (zeros (length s))
+abbrev pub all_zero : List ℕ → Bool
+all_zero s = list_all (λ x. eqb x 0) s

@@ -1,70 +1,72 @@
 -- Installation, by its tests. Assumes nothing.
-use Prim.Native.Nat.{ℕ, ◌+◌, ◌≤◌}
-use mathlib.Core.Bool.{Bool, true, false, ◌&&◌, false≢true}
+use Prim.Native.Nat.{ℕ, ◌+◌, ◌-◌}
+use mathlib.Core.Bool.{Bool, true, false}
 use mathlib.Core.List.{List, []}
-use mathlib.Core.Path.{◌≡◌, refl}
+use mathlib.Core.Path.{◌≡◌, refl, sym, ◌∙◌}
 use native.Mathlib.Omega.{arith}
-use borrow.Author.Tests.{eq-eqb, ne_eqb, eqb-true}
-use lib.Dec.{eqb, leb, ltb}
-use lib.ListN.{length}
+use borrow.Author.Tests.{eq-eqb, ne_eqb}
+use Rattle.std.specs.Prelude.{Some, None}
+use lib.Dec.{eqb, ltb}
+use lib.ListN.{length, take, drop}
 use Rattle.octets.specs.Choice.{pick}
-use Rattle.octets.specs.Bytes.{byte_at, paste}
-use Rattle.stores.specs.Stores.{leaves}
-use Rattle.card.specs.declared.head.Aid.{Aid}
-use Rattle.card.specs.declared.head.Fixed.{Fixed}
-use Rattle.card.specs.declared.head.Keys.{Keys}
+use Rattle.octets.specs.Bytes.{field, paste}
+use Rattle.octets.proofs.Parts.{field-part}
+use Rattle.stores.specs.Stores.{Store, leaves}
 use Rattle.memory.specs.Layout.{memory_size}
 use Rattle.memory.specs.Changes.{install_plan}
 use Rattle.session.specs.Transitions.{unselected}
-use Rattle.purse_spec.specs.Calls.{refusal}
 use Rattle.purse_spec.specs.Installation.{data_ok, data_fixed, data_aid, data_keys, installation}
 use Rattle.purse.specs.declared.calls.Called.{Called}
+use Rattle.purse.specs.declared.calls.Answer.TheVariants.{MemoryLength, InstallationData}
+use Rattle.purse.specs.declared.installation.Data.{Data}
 use Rattle.purse.specs.Called.{Gives, storeless, under_limit}
-use Rattle.purse.proofs.Outcomes.{performed_gives}
+use Rattle.purse.proofs.Outcomes.{refusal_gives, performed_gives}
 
-left : (a b : Bool) → (a && b) ≡ true → a ≡ true
-left true b e = refl
-left false b e = e
+-- the keys are all that is left behind the tries
+pub keys_last : (d : List ℕ) (n : ℕ) → length d ≡ n + 51 → take (length d - (n + 3)) (drop (n + 3) d) ≡ field d (n + 3) 48
+keys_last d n e =
+    let z : length d - (n + 3) ≡ 48 = omega (arith, e) in
+    rw z (sym (field-part d (n + 3) 48 (omega (arith, e))))
 
-right : (a b : Bool) → (a && b) ≡ true → b ≡ true
-right true b e = e
-right false b e = absurd (false≢true e)
+-- what the data say
+abbrev pub data_of : List ℕ → Data
+data_of d = record { fixed = data_fixed d; aid = data_aid d; admin = data_keys d }
 
--- the third of seven tests
-third : (a b c d e f g : Bool) → (a && b && c && d && e && f && g) ≡ true → c ≡ true
-third a b c d e f g p = right (a && b) c (left _ d (left _ e (left _ f (left _ g p))))
+module _ (m d : List ℕ) (limit : ℕ) where
+  pub install_sized : (length m ≡ memory_size → ⊥) → Gives (installation m d limit) (storeless MemoryLength unselected) m []
+  unfolding installation
+  install_sized h = let t : eqb (length m) memory_size ≡ false = ne_eqb _ _ h in rw t (refusal_gives MemoryLength 1 unselected m [] refl)
 
--- the AID lies within the data
-pub aid-within : (d : List ℕ) → data_ok d ≡ true → 1 + byte_at d 0 ≤ length d
-unfolding data_ok
-aid-within d e =
-    let n = byte_at d 0 in
-    let size = byte_at d (n + 1) in
-    let tries = byte_at d (n + 2) in
-    let h : length d ≡ n + 51 = eqb-true _ _ (third (leb 5 n) (leb n 16) (eqb (length d) (n + 51)) (leb 1 size) (leb size 50) (leb 3 tries) (leb tries 15) e) in
-    omega (arith, h)
-
--- what installation says and leaves
-abbrev pub Installed : List ℕ → List ℕ → ℕ → Called → List ℕ → Type 0
-Installed m d limit r m' = Gives (installation m d limit) r m' []
-
-module _ (m d : List ℕ) (limit : ℕ) (r : Called) where
-  pub install-sized : (length m ≡ memory_size → ⊥) → r ≡ storeless 1 unselected → Installed m d limit r m
-  unfolding installation refusal
-  install-sized h e = let t : eqb (length m) memory_size ≡ false = ne_eqb _ _ h in rw (t, e) (record { called = refl; memory = refl; response = refl })
-
-  pub install_data : length m ≡ memory_size → data_ok d ≡ false → r ≡ storeless 6 unselected → Installed m d limit r m
-  unfolding installation refusal
-  install_data h f e = let t : eqb (length m) memory_size ≡ true = eq-eqb _ _ h in rw (t, f, e) (record { called = refl; memory = refl; response = refl })
-
-  pub install-run : (m' : List ℕ) (fixed : Fixed) (aid : Aid) (admin : Keys) (n : ℕ) → length m ≡ memory_size → data_ok d ≡ true
-      → fixed ≡ data_fixed d → aid ≡ data_aid d → admin ≡ data_keys d → n ≡ length (install_plan fixed aid admin)
-      → m' ≡ leaves (install_plan fixed aid admin) limit m → r ≡ under_limit n limit 0 unselected → Installed m d limit r m'
-  unfolding installation paste
-  install-run m' fixed aid admin n h f p a q i j e =
+  pub install_data : length m ≡ memory_size → None ≡ pick (data_ok d) (Some (data_of d)) None
+      → Gives (installation m d limit) (storeless InstallationData unselected) m []
+  unfolding installation
+  install_data h e =
       let t : eqb (length m) memory_size ≡ true = eq-eqb _ _ h in
-      rw (t, f, ← p, ← a, ← q) (performed_gives (install_plan fixed aid admin) limit m unselected [] [] n 0 m' [] r i refl j (none (ltb limit n)) e)
+      let f : data_ok d ≡ false = refused (data_ok d) e in
+      rw (t, f) (refusal_gives InstallationData 6 unselected m [] refl)
     where
+      refused : (b : Bool) → None ≡ pick b (Some (data_of d)) None → b ≡ false
+      refused true p = cc
+      refused false p = refl
+
+  -- the stores of what the data say
+  abbrev pub stores_of : Data → List Store
+  stores_of x = install_plan x.fixed x.aid x.admin
+
+  pub install_run : (x : Data) (n : ℕ) (m' : List ℕ) (r : Called) → length m ≡ memory_size → Some x ≡ pick (data_ok d) (Some (data_of d)) None
+      → n ≡ length (stores_of x) → m' ≡ leaves (stores_of x) limit m → r ≡ under_limit n limit 0 unselected → Gives (installation m d limit) r m' []
+  unfolding installation paste
+  install_run x n m' r h f i j e =
+      let t : eqb (length m) memory_size ≡ true = eq-eqb _ _ h in
+      let g = taken (data_ok d) f in
+      rw (t, g.0)
+      (performed_gives (stores_of (data_of d)) limit m unselected [] [] n 0 m' [] r (i ∙ (λ k. length (stores_of (g.1 k)))) refl (j ∙ (λ k. leaves (stores_of (g.1 k)) limit m))
+      (none (ltb limit n)) e)
+    where
+      taken : (b : Bool) → Some x ≡ pick b (Some (data_of d)) None → (b ≡ true) × (x ≡ data_of d)
+      taken true p = (refl, cc)
+      taken false p = cc
+
       none : (b : Bool) → ◌≡◌ {A = List ℕ} [] (pick b [] [])
       none true = refl
       none false = refl

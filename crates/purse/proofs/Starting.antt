@@ -1,42 +1,35 @@
 -- Start-up, by its tests. Assumes nothing.
 use Prim.Native.Nat.{ℕ}
-use mathlib.Core.Bool.{Bool, true, false}
+use mathlib.Core.Bool.{Bool, true, false, not}
 use mathlib.Core.List.{List, []}
-use mathlib.Core.Path.{◌≡◌, refl}
-use borrow.Author.Tests.{eq-eqb, ne_eqb}
+use mathlib.Core.Path.{◌≡◌}
+use Rattle.std.specs.Prelude.{Some, None, is_none}
 use lib.Dec.{eqb}
 use lib.ListN.{length}
 use Rattle.octets.specs.Choice.{pick}
 use Rattle.memory.specs.Layout.{memory_size}
-use Rattle.card.specs.declared.head.Head.{Head}
-use Rattle.memory.specs.declared.reading.Reading.{Reading}
-use Rattle.memory.specs.Reading.{readable, reading, head_in, no_card}
+use Rattle.memory.specs.Reading.{readable, head_in, reading}
+use Rattle.session.specs.declared.Session.{Session}
 use Rattle.session.specs.Transitions.{unselected}
-use Rattle.purse_spec.specs.Calls.{refusal}
+use Rattle.purse_spec.specs.Calls.{Run, refusal}
 use Rattle.purse_spec.specs.Startup.{startup}
 use Rattle.purse_spec.proofs.Performed.{performed-nothing}
+use Rattle.purse.specs.declared.calls.Answer.{Answer}
 use Rattle.purse.specs.declared.calls.Called.{Called}
-use Rattle.purse.specs.Called.{Gives, storeless}
+use Rattle.purse.specs.Called.{number_of, Gives, storeless}
+use Rattle.purse.proofs.Outcomes.{refusal_gives}
 
--- what start-up says and leaves
-abbrev pub Started : List ℕ → ℕ → Called → Type 0
-Started m limit r = Gives (startup m limit) r m []
-
--- the reading's flag
-pub reads_ok : (m : List ℕ) (r : Reading) → r ≡ reading m → r.ok ≡ readable m
-unfolding reading
-reads_ok m r e = rw e (flag (readable m) (head_in m))
+-- what start-up gives, by its answer
+pub start_by : (m : List ℕ) (limit : ℕ) (r : Called) (a : Answer) (s : Session) → r ≡ storeless a s → s ≡ unselected
+    → number_of a ≡ pick (not (eqb (length m) memory_size)) 1 (pick (is_none (reading m)) 2 0) → Gives (startup m limit) r m []
+unfolding startup reading refusal
+start_by m limit r a s q u e = rw (q, u, performed-nothing) (go (eqb (length m) memory_size) (readable m) e)
   where
-    flag : (b : Bool) (h : Head) → (pick b (record { ok = true; head = h }) no_card).ok ≡ b
-    flag true h = refl
-    flag false h = refl
+    refused : ℕ → Run
+    refused n = refusal n unselected m []
 
-module _ (m : List ℕ) (limit : ℕ) (r : Called) where
-  pub start-sized : (length m ≡ memory_size → ⊥) → r ≡ storeless 1 unselected → Started m limit r
-  unfolding startup refusal
-  start-sized h e = let t : eqb (length m) memory_size ≡ false = ne_eqb _ _ h in rw (t, e) (record { called = refl; memory = refl; response = refl })
-
-  pub start_read : (b : Bool) → length m ≡ memory_size → readable m ≡ b → r ≡ storeless (pick b 0 2) unselected → Started m limit r
-  unfolding startup refusal
-  start_read true h f e = let t : eqb (length m) memory_size ≡ true = eq-eqb _ _ h in rw (t, f, e, performed-nothing limit m) (record { called = refl; memory = refl; response = refl })
-  start_read false h f e = let t : eqb (length m) memory_size ≡ true = eq-eqb _ _ h in rw (t, f, e) (record { called = refl; memory = refl; response = refl })
+    go : (b c : Bool) → number_of a ≡ pick (not b) 1 (pick (is_none (pick c (Some (head_in m)) None)) 2 0)
+        → Gives (pick (not b) (refused 1) (pick (not c) (refused 2) (refused 0))) (storeless a unselected) m []
+    go true true p = refusal_gives a 0 unselected m [] p
+    go true false p = refusal_gives a 2 unselected m [] p
+    go false c p = refusal_gives a 1 unselected m [] p

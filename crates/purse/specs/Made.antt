@@ -5,5 +5,6 @@ use Rattle.card.specs.declared.change.Change.{Change}
 use Rattle.purse_spec.specs.Commands.{plans}
 
 -- their stores are n in all, and m' is left of m
-abbrev pub Made : List Change → List ℕ → ℕ → ℕ → List ℕ → Type 0
-Made xs m limit n m' = (n ≡ length (plans xs m)) × (m' ≡ leaves (plans xs m) limit m)
+pub record Made (xs : List Change) (m : List ℕ) (limit n : ℕ) (m' : List ℕ) : Type 0 where
+  pub count : n ≡ length (plans xs m)
+  pub memory : m' ≡ leaves (plans xs m) limit m

@@ -1,48 +1,66 @@
 // What a call says.
 ghost use Rattle.std.specs.Prelude.{◌≡◌};
-ghost use Rattle.purse.specs.Called.{storeless, under_limit};
+ghost use Rattle.purse.specs.Called.{number_of, storeless, under_limit};
 
-use session::{Session, unselected};
+use session::Session;
 
-// The answer, of document 01's list; the reported stores; the length of the response; the session handed back, the unselected one
-// where none is.
+// The answers of document 01's list, "What a call can say", in its order; 8 is the C host's alone.
+#[derive(Clone, Copy, PartialEq, Eq, Debug)]
+pub enum Answer {
+    Done = 0,
+    MemoryLength = 1,
+    NoCard = 2,
+    AreaLength = 3,
+    RandomLength = 4,
+    AwaitsStartUp = 5,
+    InstallationData = 6,
+    Cut = 7,
+}
+
+impl From<Answer> for u8 {
+    ghost from_gives = { λ answer n. n ≡ number_of answer };
+
+    fn from(answer: Answer) -> u8 {
+        answer as u8
+    }
+}
+
+// The answer; the reported stores; the length of the response; the session handed back, the unselected one where none is.
 #[derive(Clone, Copy)]
 pub struct Called {
-    pub answer: u8,
+    pub answer: Answer,
     pub count: usize,
     pub length: usize,
     pub session: Session,
 }
 
 // An answer of a run without stores and without a response.
-pub fn storeless(answer: u8, session: Session) -> Called
+pub fn storeless(answer: Answer, session: Session) -> Called
     ensures { result ≡ storeless answer session }
 {
     Called {
-        answer: answer,
+        answer,
         count: 0,
         length: 0,
-        session: session,
+        session,
     }
 }
 
-// A run of `n` stores under a limit: 0, or 7.
+// A run of `n` stores under a limit: done, or cut.
+#[tactic(auto, unfolding(crate::specs::Called::under_limit))]
 pub fn finish(n: usize, limit: usize, length: usize, session: Session) -> Called
     ensures { result ≡ under_limit n limit length session }
 {
     if limit < n {
-        let none = unselected();
         return Called {
-            answer: 7,
             count: limit,
-            length: 0,
-            session: none,
+            ..storeless(Answer::Cut, Session::unselected())
         };
     }
     Called {
-        answer: 0,
+        answer: Answer::Done,
         count: n,
-        length: length,
-        session: session,
+        length,
+        session,
     }
 }

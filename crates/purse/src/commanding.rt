@@ -1,16 +1,16 @@
 // A command: the answers in document 01's order, then the command on the card that memory reads as.
-ghost use Rattle.std.specs.Prelude.{true, ◌≡◌, length};
-ghost use Rattle.memory.specs.Reading.{head_in, record_at, readable, read_card};
+ghost use Rattle.std.specs.Prelude.{◌≡◌};
+ghost use Rattle.memory.specs.Reading.{record_at};
 ghost use Rattle.commands_spec.specs.ReadRecord.{asked};
-ghost use Rattle.purse_spec.specs.Commands.{on_card, command};
+ghost use Rattle.purse_spec.specs.Commands.{command};
 ghost use Rattle.purse.specs.Called.{Gives};
 
-use crate::calls::{Called, storeless};
+use crate::calls::{Answer, Called, storeless};
 use crate::performing::perform;
-use card::{Head, Record};
+use card::Record;
 use commands::respond;
 use memory::{MEMORY_SIZE, record_at};
-use octets::{byte_at, part8};
+use octets::{byte_at, part};
 use session::Session;
 use tdes::Engine;
 
@@ -18,38 +18,15 @@ use tdes::Engine;
 pub const LEAST_AREA: usize = 32;
 
 // The log record that READ RECORD would read: record 1 is the newest.
+#[tactic(auto, unfolding(commands_spec::specs::ReadRecord::asked))]
 fn asked_record(memory: &[u8], bytes: &[u8]) -> Record
     ensures { result ≡ record_at memory.now (asked bytes.now) }
 {
-    let p1 = byte_at(bytes, 2);
-    if p1 == 0 {
-        return record_at(memory, 0);
-    }
-    record_at(memory, p1 as usize - 1)
-}
-
-// On readable memory, whose head is at hand.
-fn run(
-    engine: Engine,
-    memory: &mut [u8],
-    head: Head,
-    session: Session,
-    bytes: &[u8],
-    random: &[u8],
-    area: &mut [u8],
-    limit: usize,
-) -> Called
-    requires { (readable memory.old ≡ true) × (head ≡ head_in memory.old) × (length random.now ≡ 8) }
-    ensures { Gives (on_card (read_card memory.old) memory.old session
-        bytes.now random.now area.old limit) result memory.new area.new }
-{
-    let asked = asked_record(memory, bytes);
-    let drawn = part8(random, 0);
-    let outcome = respond(engine, head, asked, session, bytes, drawn);
-    perform(memory, outcome, area, limit)
+    record_at(memory, usize::from(byte_at(bytes, 2)).saturating_sub(1))
 }
 
 // Answers 0 to 4 and 7. The response leads the area after 0.
+#[tactic(auto, using(crate::proofs::Requests::memory_sized, crate::proofs::Requests::area_sized, crate::proofs::Requests::random_sized, crate::proofs::Requests::no_card_lem))]
 pub fn command(
     engine: Engine,
     memory: &mut [u8],
@@ -63,18 +40,18 @@ pub fn command(
         result memory.new area.new }
 {
     if memory.len() != MEMORY_SIZE {
-        return storeless(1, session);
+        return storeless(Answer::MemoryLength, session);
     }
     if area.len() < LEAST_AREA {
-        return storeless(3, session);
+        return storeless(Answer::AreaLength, session);
     }
     if random.len() != 8 {
-        return storeless(4, session);
+        return storeless(Answer::RandomLength, session);
     }
-    let reading = memory::read(memory);
-    if !reading.ok {
-        return storeless(2, session);
-    }
-    let head = reading.head;
-    run(engine, memory, head, session, bytes, random, area, limit)
+    let Some(head) = memory::read(memory) else {
+        return storeless(Answer::NoCard, session);
+    };
+    let asked = asked_record(memory, bytes);
+    let outcome = respond(engine, head, asked, session, bytes, part(random, 0));
+    perform(memory, &outcome, area, limit)
 }

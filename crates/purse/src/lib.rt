@@ -7,7 +7,7 @@ mod installation;
 mod performing;
 mod startup;
 
-pub use calls::Called;
+pub use calls::{Answer, Called};
 pub use commanding::{LEAST_AREA, command};
 pub use installation::install;
 pub use startup::start_up;

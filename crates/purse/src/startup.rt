@@ -3,20 +3,20 @@ ghost use Rattle.std.specs.Prelude.{[]};
 ghost use Rattle.purse_spec.specs.Startup.{startup};
 ghost use Rattle.purse.specs.Called.{Gives};
 
-use crate::calls::{Called, storeless};
+use crate::calls::{Answer, Called, storeless};
 use memory::MEMORY_SIZE;
-use session::unselected;
+use session::Session;
 
 // Answers 0, 1 and 2.
 pub fn start_up(memory: &mut [u8], limit: usize) -> Called
     ensures { Gives (startup memory.old limit) result memory.new [] }
 {
-    if memory.len() != MEMORY_SIZE {
-        return storeless(1, unselected());
-    }
-    let reading = memory::read(memory);
-    if !reading.ok {
-        return storeless(2, unselected());
-    }
-    storeless(0, unselected())
+    let answer = if memory.len() != MEMORY_SIZE {
+        Answer::MemoryLength
+    } else if memory::read(memory).is_none() {
+        Answer::NoCard
+    } else {
+        Answer::Done
+    };
+    storeless(answer, Session::unselected())
 }

@@ -1,5 +1,6 @@
 -- One call and the ledger: where memory reads as a card whose balance is the ledger's sum, and the ledger's note is what the session has
 -- noted, the same holds behind any call but a cut installation. Assumes nothing.
+use Rattle.std.specs.Prelude.{Ok}
 use mathlib.Core.Bool.{Bool, true, false, ◌&&◌, false≢true}
 use mathlib.Core.List.{List}
 use mathlib.Core.Option.{Option, none, some}
@@ -127,13 +128,13 @@ module _ (m : List ℕ) (s : Session) (b : Ledger) (h : Agrees m s b) (bytes ran
     unfolding noting
     unmoved n k q = after_holds (noting n b) (let f = k.balance in let g = h.sum in omega arith) q
 
-    initialize_booked : named bytes ≡ IsSigned InitializeTransaction → w ≡ 0x9000 → H (noting (some (note_of bytes)) b)
+    initialize_booked : named bytes ≡ Ok (IsSigned InitializeTransaction) → w ≡ 0x9000 → H (noting (some (note_of bytes)) b)
     unfolding note_of
     initialize_booked n z =
         unmoved (some (note_of bytes)) ((only-complete_moves c s bytes random).kept (λ v q. let k : ◌≡◌ {A = ℕ} 0 1 = cc in omega arith))
         (λ q. ap some (sym (ap note_for (initialize_notes c s bytes random n z) ∙ noted-note (byte_at bytes 2) (word_at bytes 7))))
 
-    complete-booked : named bytes ≡ IsSigned CompleteTransaction → w ≡ 0x9000 → H (added_to b.note b)
+    complete-booked : named bytes ≡ Ok (IsSigned CompleteTransaction) → w ≡ 0x9000 → H (added_to b.note b)
     complete-booked n z =
         let was = complete_was_noted c s bytes random n z in
         let moved = (only-complete_moves c s bytes random).moved n z in
@@ -142,7 +143,7 @@ module _ (m : List ℕ) (s : Session) (b : Ledger) (h : Agrees m s b) (bytes ran
         (after_holds _ (added s.pending b c.head.purse.balance (card_after c s bytes random).head.purse.balance was h.sum moved.balance)
         (λ k. absurd (false≢true (sym left ∙ k))))
 
-    other_booked : (named bytes ≡ IsSigned InitializeTransaction → w ≡ 0x9000 → ⊥) → (named bytes ≡ IsSigned CompleteTransaction → w ≡ 0x9000 → ⊥) → H (noting none b)
+    other_booked : (named bytes ≡ Ok (IsSigned InitializeTransaction) → w ≡ 0x9000 → ⊥) → (named bytes ≡ Ok (IsSigned CompleteTransaction) → w ≡ 0x9000 → ⊥) → H (noting none b)
     other_booked x y =
         unmoved none ((only-complete_moves c s bytes random).kept y) (λ k. absurd (false≢true (sym (others_note-nothing c s bytes random x) ∙ k)))
 
@@ -151,11 +152,11 @@ module _ (m : List ℕ) (s : Session) (b : Ledger) (h : Agrees m s b) (bytes ran
     unfolding fed_command is_initialize is_complete
     finished-booked =
         pick_holds H (is_initialize bytes && eqb w 0x9000) _ _
-        (λ t. let a = and_both (is_initialize bytes) (eqb w 0x9000) t in initialize_booked (bytes-named bytes (IsSigned InitializeTransaction) (begins bytes 0x44 a.0)) (eqb-true w 0x9000 a.1))
+        (λ t. let a = and_both (is_initialize bytes) (eqb w 0x9000) t in initialize_booked (bytes-named bytes (Ok (IsSigned InitializeTransaction)) (begins bytes 0x44 a.0)) (eqb-true w 0x9000 a.1))
         (λ t. pick_holds H (is_complete bytes && eqb w 0x9000) _ _
-        (λ u. let a = and_both (is_complete bytes) (eqb w 0x9000) u in complete-booked (bytes-named bytes (IsSigned CompleteTransaction) (begins bytes 0x46 a.0)) (eqb-true w 0x9000 a.1))
-        (λ u. other_booked (λ n z. begins_not bytes 0x44 w t (named-bytes bytes (IsSigned InitializeTransaction) n) z)
-        (λ n z. begins_not bytes 0x46 w u (named-bytes bytes (IsSigned CompleteTransaction) n) z)))
+        (λ u. let a = and_both (is_complete bytes) (eqb w 0x9000) u in complete-booked (bytes-named bytes (Ok (IsSigned CompleteTransaction)) (begins bytes 0x46 a.0)) (eqb-true w 0x9000 a.1))
+        (λ u. other_booked (λ n z. begins_not bytes 0x44 w t (named-bytes bytes (Ok (IsSigned InitializeTransaction)) n) z)
+        (λ n z. begins_not bytes 0x46 w u (named-bytes bytes (Ok (IsSigned CompleteTransaction)) n) z)))
 
 -- ---- one call
 

@@ -1,5 +1,6 @@
 -- No guess is free: of two VERIFY PIN commands that differ only in the PIN sent, at the same limit, either both runs are the same, so that
 -- nothing tells the PINs apart, or in both a try is spent or the PIN was right and the run finished. Assumes nothing.
+use Rattle.std.specs.Prelude.{Ok}
 use mathlib.Core.Bool.{Bool, true, false, not}
 use mathlib.Core.List.{List, [], ◌∷◌, ◌++◌}
 use mathlib.Core.Option.{Option, none, some}
@@ -208,4 +209,4 @@ no_free_guess st a b random area limit t f g h x y n z =
         in
         pick_pair st.memory (awaits st.memory) _ _ _
         (λ r. guessed st.memory c st.session a b random area limit q (i a f) (i b g) v
-        (pin_pair c st.session (Tried c st.session) (λ u w. alike refl) (λ u w k. judges u w k refl refl) a b random (bytes-named a (IsPlain VerifyPin) (x, y)) n z))
+        (pin_pair c st.session (Tried c st.session) (λ u w. alike refl) (λ u w k. judges u w k refl refl) a b random (bytes-named a (Ok (IsPlain VerifyPin)) (x, y)) n z))

@@ -1,6 +1,7 @@
 -- Histories of demand 3 exist on every memory of 4,096 bytes: with two installations, with a COMPLETE TRANSACTION that is cut, and with a VERIFY
 -- PIN that is cut, at every limit below their stores; and with a COMPLETE TRANSACTION of 33 stores. Commands are signed as the laws of commands_spec have it; no signature is computed.
 -- Assumes nothing.
+use Rattle.std.specs.Prelude.{Result, Ok}
 use mathlib.Core.Bool.{Bool, true, false, ◌&&◌, false≢true}
 use mathlib.Core.List.{List, [], ◌∷◌, ◌++◌}
 use mathlib.Core.Path.{◌≡◌, refl, sym, ap, ◌∙◌, subst}
@@ -35,6 +36,8 @@ use Rattle.session.specs.declared.Pending.TheVariants.{Update}
 use Rattle.session.specs.declared.Session.{Session}
 use Rattle.session.specs.Transitions.{unselected}
 use Rattle.session.proofs.Sizes.{Sized}
+use Rattle.apdu.specs.declared.instructions.Instruction.{Instruction}
+use Rattle.apdu.specs.declared.refusals.Refusal.{Refusal}
 use Rattle.apdu.specs.declared.instructions.Signed.{Signed}
 use Rattle.apdu.specs.declared.instructions.Signed.TheVariants.{PutKey, PinChange, StoreData, CompleteTransaction}
 use Rattle.apdu.specs.declared.instructions.Instruction.TheVariants.{IsSigned}
@@ -280,7 +283,7 @@ sent-bytes : (key value : List ℕ) → AreBytes value → AreBytes (ecb_text en
 sent-bytes key value f = (bytes-ecb_text encipher key value (record { at = f })).at
 
 -- a signed command with 9000 leaves the channel open
-still_open : (c : Card) (s : Session) (command random : List ℕ) (g : Signed) (l : Level) → named command ≡ IsSigned g → (respond c s command random).status ≡ 0x9000
+still_open : (c : Card) (s : Session) (command random : List ℕ) (g : Signed) (l : Level) → named command ≡ Ok (IsSigned g) → (respond c s command random).status ≡ 0x9000
     → InChannel s l → Sized (respond c s command random).session → InChannel (respond c s command random).session l
 unfolding selected_after touches
 still_open c s command random g l n w o z =
@@ -310,7 +313,7 @@ put_key_bytes c s n h z =
     signed-bytes s.channel.mac s.channel.cmac 0x84 0xD8 0x00 n (keys_sent c) z.channel.cmac.each (omega arith) (omega arith) (omega arith) h (omega arith)
     (sent-bytes c.head.shared.admin.dek (ones 16 ++ ones 16 ++ ones 16) (tested (ones 16 ++ ones 16 ++ ones 16) refl))
 
-put_key_named : (s : Session) (n : ℕ) (body : List ℕ) → named (signed_command s 0x84 0xD8 0x00 n body []) ≡ IsSigned PutKey
+put_key_named : (s : Session) (n : ℕ) (body : List ℕ) → named (signed_command s 0x84 0xD8 0x00 n body []) ≡ Ok (IsSigned PutKey)
 unfolding named instruction of84 signed_command signed_by signed_text
 put_key_named s n body = refl
 
@@ -369,7 +372,7 @@ record Personalized (c : Card) : Type 0 where
 same_word : (a b : ℕ) → word a ≡ word b → a ≡ b
 same_word a b e = sym (word_read a) ∙ ap (λ (l : List ℕ). word_at l 0) e ∙ word_read b
 
-store_named : (s : Session) (body : List ℕ) → named (signed_command s 0x84 0xE2 0x80 0x00 body []) ≡ IsSigned StoreData
+store_named : (s : Session) (body : List ℕ) → named (signed_command s 0x84 0xE2 0x80 0x00 body []) ≡ Ok (IsSigned StoreData)
 unfolding named instruction of84 signed_command signed_by signed_text
 store_named s body = refl
 
@@ -405,7 +408,7 @@ stored w =
       still_open c s _ (zeros 8) StoreData (Rmac Admin) (store_named s (flat tlvs)) g h.1 y,
     ))
   where
-    other_command : IsSigned CompleteTransaction ≡ IsSigned StoreData → ◌≡◌ {A = ℕ} 0 1
+    other_command : ◌≡◌ {A = Result Instruction Refusal} (Ok (IsSigned CompleteTransaction)) (Ok (IsSigned StoreData)) → ◌≡◌ {A = ℕ} 0 1
     other_command e = cc
 
 -- ---- a personalized card in an open channel
@@ -534,7 +537,7 @@ record Pinned (c : Card) : Type 0 where
   block : c.head.pin.block ≡ block_of digits
   left : 0 < c.head.state.tries
 
-pin-named : (s : Session) (body : List ℕ) → named (signed_command s 0x84 0x24 0x00 0x00 body []) ≡ IsSigned PinChange
+pin-named : (s : Session) (body : List ℕ) → named (signed_command s 0x84 0x24 0x00 0x00 body []) ≡ Ok (IsSigned PinChange)
 unfolding named instruction of84 signed_command signed_by signed_text
 pin-named s body = refl
 

@@ -1,4 +1,6 @@
 -- Commands by their first two bytes: from apdu's table, and as the ledger tests them. Assumes nothing.
+use Rattle.apdu.specs.declared.refusals.Refusal.{Refusal}
+use Rattle.std.specs.Prelude.{Result}
 use mathlib.Core.Bool.{true, false, ◌&&◌, false≢true}
 use mathlib.Core.List.{List}
 use mathlib.Core.Path.{◌≡◌, sym, ◌∙◌}
@@ -13,12 +15,12 @@ use Rattle.apdu.proofs.Table.{Code, instructions}
 use Rattle.commands_spec.specs.Respond.{named}
 
 -- a command begins with the two bytes of its row
-pub named-bytes : (bytes : List ℕ) (i : Instruction) → named bytes ≡ i → Code i (byte_at bytes 0) (byte_at bytes 1)
+pub named-bytes : (bytes : List ℕ) (i : Result Instruction Refusal) → named bytes ≡ i → Code i (byte_at bytes 0) (byte_at bytes 1)
 unfolding named
 named-bytes bytes i e = (instructions i (byte_at bytes 0) (byte_at bytes 1)).0 e
 
 -- and what begins with these is that command
-pub bytes-named : (bytes : List ℕ) (i : Instruction) → Code i (byte_at bytes 0) (byte_at bytes 1) → named bytes ≡ i
+pub bytes-named : (bytes : List ℕ) (i : Result Instruction Refusal) → Code i (byte_at bytes 0) (byte_at bytes 1) → named bytes ≡ i
 unfolding named
 bytes-named bytes i c = (instructions i (byte_at bytes 0) (byte_at bytes 1)).1 c
 

@@ -1,5 +1,6 @@
 -- A command past its refusals, at any limit: finished, memory reads as the card that the command leaves; cut, as before, or for VERIFY
 -- PIN as before with one try fewer. Assumes nothing.
+use Rattle.std.specs.Prelude.{Ok}
 use mathlib.Core.Bool.{true, false, false≢true}
 use mathlib.Core.List.{List}
 use mathlib.Core.Option.{some}
@@ -53,7 +54,7 @@ cut_keeps (before e) = rw e (record { balance = refl; number = refl; log = refl 
 cut_keeps (fewer p q f) = rw f.is (record { balance = refl; number = refl; log = refl })
 
 -- a VERIFY PIN with 9000 had a try
-had_try : (c : Card) (s : Session) (bytes : List ℕ) (o : Outcome) → Way c s bytes o → named bytes ≡ IsPlain VerifyPin → o.status ≡ 0x9000
+had_try : (c : Card) (s : Session) (bytes : List ℕ) (o : Outcome) → Way c s bytes o → named bytes ≡ Ok (IsPlain VerifyPin) → o.status ≡ 0x9000
     → 0 < c.head.state.tries
 unfolding refused done own_way is_one refusals
 had_try c s bytes o (refuses w t j e) i f = absurd (not_refused c.head t w 0x9000 o j e f refl)
@@ -82,11 +83,11 @@ module _ (m : List ℕ) (c : Card) (s : Session) (bytes random : List ℕ) (e : 
   p = outcome_plan O m
 
   -- no second change, VERIFY PIN with 9000 apart
-  single : (named bytes ≡ IsPlain VerifyPin → O.status ≡ 0x9000 → ⊥) → (n : ℕ) → suc n < length X → ⊥
+  single : (named bytes ≡ Ok (IsPlain VerifyPin) → O.status ≡ 0x9000 → ⊥) → (n : ℕ) → suc n < length X → ⊥
   single z n h = let k = one_change c s bytes random z in omega arith
 
   -- which makes two
-  between : named bytes ≡ IsPlain VerifyPin → O.status ≡ 0x9000 → (n : ℕ) → suc n < length X → Fewer c (after (take (suc n) X) c)
+  between : named bytes ≡ Ok (IsPlain VerifyPin) → O.status ≡ 0x9000 → (n : ℕ) → suc n < length X → Fewer c (after (take (suc n) X) c)
   unfolding after changed head_after log_after with_state with_balance with_purse tried
   between v f zero h =
       let t = had_try c s bytes O (way c s bytes random) v f in
@@ -101,10 +102,10 @@ module _ (m : List ℕ) (c : Card) (s : Session) (bytes random : List ℕ) (e : 
       elim (ℕ_discrete O.status 0x9000) [
         | yes f ↦ elim (ℕ_discrete (byte_at bytes 0) 0x94) [
           | yes a ↦ elim (ℕ_discrete (byte_at bytes 1) 0x20) [
-            | yes b ↦ fewer a b (between (bytes-named bytes (IsPlain VerifyPin) (a, b)) f n h)
-            | no b ↦ absurd (single (λ v z. b (named-bytes bytes (IsPlain VerifyPin) v).1) n h)
+            | yes b ↦ fewer a b (between (bytes-named bytes (Ok (IsPlain VerifyPin)) (a, b)) f n h)
+            | no b ↦ absurd (single (λ v z. b (named-bytes bytes (Ok (IsPlain VerifyPin)) v).1) n h)
           ]
-          | no a ↦ absurd (single (λ v z. a (named-bytes bytes (IsPlain VerifyPin) v).0) n h)
+          | no a ↦ absurd (single (λ v z. a (named-bytes bytes (Ok (IsPlain VerifyPin)) v).0) n h)
         ]
         | no f ↦ absurd (single (λ v z. f z) n h)
       ]

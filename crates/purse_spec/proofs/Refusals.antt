@@ -1,5 +1,6 @@
 -- Demand 1: "A refusal changes nothing in card memory, except that a wrong PIN costs one try"; and the commands that only read make no
 -- store, whatever they answer. Assumes nothing.
+use Rattle.std.specs.Prelude.{Ok}
 use mathlib.Core.Bool.{true}
 use mathlib.Core.List.{List, []}
 use mathlib.Core.Option.{some}
@@ -42,7 +43,7 @@ none-stored st c bytes random area limit e h =
 -- a refusal, a wrong PIN's 6300 apart
 pub refusal_stores_nothing : (st : Situation) (c : Card) (bytes random area : List ℕ) (limit : ℕ) → (reads : read_card st.memory ≡ some c)
     → (refused : (respond c st.session bytes random).status ≡ 0x9000 → ⊥)
-    → (no-wrong-pin : named bytes ≡ IsPlain VerifyPin → (respond c st.session bytes random).status ≡ 0x6300 → ⊥)
+    → (no-wrong-pin : named bytes ≡ Ok (IsPlain VerifyPin) → (respond c st.session bytes random).status ≡ 0x6300 → ⊥)
     → NoStore st.memory (run (send bytes random area limit) st)
 refusal_stores_nothing st c bytes random area limit e x y =
     none-stored st c bytes random area limit e (refusal_changes_nothing c st.session bytes random x y)

@@ -1,5 +1,6 @@
 -- Changes in a row on a card: finished, they read as the card after all of them; cut, as the card after the first of them, fewer than
 -- all. Assumes nothing.
+use Rattle.std.specs.Prelude.{is_some}
 use mathlib.Core.Bool.{Bool, true, false}
 use mathlib.Core.List.{List, [], ◌∷◌}
 use mathlib.Core.Option.{some}
@@ -95,7 +96,7 @@ abbrev most_stores : ℕ
 most_stores = hot_size + record_size + cold_size + 1
 
 count_most : (x : Change) → store_count x ≤ most_stores
-count_most x = go x.logs x.cold
+count_most x = go (is_some x.logged) x.cold
   where
     go : (logs cold : Bool) → hot_size + pick logs record_size 0 + pick cold cold_size 0 + 1 ≤ most_stores
     go true true = omega arith

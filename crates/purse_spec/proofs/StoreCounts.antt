@@ -1,4 +1,5 @@
 -- How many stores a command makes, exactly, by what it commits; and so of COMPLETE TRANSACTION. Assumes nothing.
+use Rattle.std.specs.Prelude.{Ok}
 use mathlib.Core.List.{List}
 use mathlib.Core.Option.{some}
 use mathlib.Core.Path.{◌≡◌, refl, sym, ap, ◌∙◌}
@@ -89,7 +90,7 @@ committed : (c : Card) (s : Session) (bytes random : List ℕ) → (byte_at byte
     → (respond c s bytes random).status ≡ 0x9000 → (respond c s bytes random).commits ≡ HotAndRecord
 unfolding complete_transaction_of decided
 committed c s bytes random i w =
-    let b = completes c s bytes random (bytes-named bytes (IsSigned CompleteTransaction) i) w in
+    let b = completes c s bytes random (bytes-named bytes (Ok (IsSigned CompleteTransaction)) i) w in
     rw (b.is, b.passed)
 
 -- and so, 94 46, makes 33 stores

@@ -1,28 +1,22 @@
 // READ RECORD: the log record that the caller found.
-ghost use Rattle.std.specs.Prelude.{◌≡◌, ◌≤◌, length};
-ghost use Rattle.octets.specs.Buffers.{holding};
-ghost use Rattle.card.specs.Log.{record_bytes};
+ghost use Rattle.std.specs.Prelude.{◌≡◌};
 ghost use Rattle.commands_spec.specs.ReadRecord.{read_record_of};
 
-use card::{Head, Record, record_bytes};
+use card::Record;
 use commands_spec::{Commits, Outcome};
-use objects::done;
-use octets::{Buffer, append, empty};
-use session::{Session, ended};
-
-// A record as an answer.
-fn record_answer(found: Record) -> Buffer
-    ensures { (result ≡ holding (record_bytes found)) × (length (record_bytes found) ≤ 126) }
-{
-    let bytes = record_bytes(found);
-    append(empty(), &bytes)
-}
+use objects::{Context, done};
+use octets::Buffer;
 
 // READ RECORD past step 5.
-pub fn read_record(head: Head, session: Session, found: Record) -> Outcome
-    ensures { result ≡ read_record_of head session found }
+#[tactic(auto, using(octets::proofs::Holding::of_piece, objects::proofs::Answers::done_held), unfolding(commands_spec::specs::ReadRecord::read_record_of))]
+pub fn read_record(context: &Context, found: &Record) -> Outcome
+    ensures { result ≡ read_record_of context.now.head context.now.session found.now }
 {
-    let answer = record_answer(found);
-    let left = ended(session);
-    done(Commits::Unchanged, head, left, answer)
+    let answer = Buffer::of(&found.to_bytes());
+    done(
+        Commits::Unchanged,
+        context.head,
+        context.session.ended(),
+        answer,
+    )
 }

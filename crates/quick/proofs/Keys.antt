@@ -1,17 +1,16 @@
 -- The round keys of a key, a word each, in either order. Assumes nothing.
 use mathlib.Core.Path.{◌≡◌, refl, sym, ap, ap₂, ◌∙◌, subst}
-use mathlib.Core.List.{List, [], ◌∷◌, ◌++◌, map, reverse, reverse_aux, reverse-cons}
-use Prim.Native.Nat.{ℕ, suc, ◌+◌, ◌-◌, ◌*◌, ◌/◌, ◌%◌, ◌^◌, ◌≤◌, ◌<◌}
-use native.Mathlib.Numerals.{add-one}
+use mathlib.Core.List.{List, [], ◌∷◌, ◌++◌, map, reverse, reverse_aux}
+use Prim.Native.Nat.{ℕ, ◌+◌, ◌-◌, ◌*◌, ◌/◌, ◌%◌, ◌^◌, ◌≤◌, ◌<◌}
 use native.Mathlib.Omega.{arith}
 use lib.Pow.{shr_lt}
-use lib.ListN.{length, get_or, set, take, drop, length-set, drop_of_length-le}
-use lib.Seq.{take-suc-set, take_all, drop-cons, take-append-add, drop-append-le}
+use lib.ListN.{length, take, drop}
+use lib.Seq.{take-append-add, drop-append-le}
 use Rattle.des_spec.specs.Bits.{binary}
 use Rattle.des_spec.specs.Des.{permute, rotate, shift_halves, keys_from}
 use Rattle.des_spec.specs.Tables.{shifts, PC2}
 use Rattle.des_spec.proofs.Lengths.{length-binary}
-use Rattle.quick.specs.Words.{key_bits, halves_at, Chosen}
+use Rattle.quick.specs.Words.{key_bits, halves_at}
 use Rattle.quick.proofs.Words.{binary_mod, binary_shr, binary_join, high_half, low_half, digits_from}
 
 abbrev cons : List ℕ → List (List ℕ) → List (List ℕ)
@@ -23,9 +22,9 @@ unfolding digits_from permute halves_at binary
 halves z = ap₂ (λ (x y : List ℕ). x ++ y) (binary_shr 28 36 z) (binary_mod 28 0 (z / 2 ^ 4) ∙ binary_shr 28 4 z)
 
 -- what the code asks of a round key
-pub ready : {p : List ℕ} {z n : ℕ} → Chosen p → z < 2 ^ 64 → n < 29
-    → Chosen p × ((z / 2 ^ 36 < 2 ^ 28) × ((z / 2 ^ 4 % 2 ^ 28 < 2 ^ 28) × (n < 29)))
-ready {z = z} p h g = (p, (shr_lt 28 36 h, (omega arith, g)))
+pub ready : {z n : ℕ} → z < 2 ^ 64 → n < 29
+    → (z / 2 ^ 36 < 2 ^ 28) × ((z / 2 ^ 4 % 2 ^ 28 < 2 ^ 28) × (n < 29))
+ready {z} h g = (shr_lt 28 36 h, (omega arith, g))
 
 rotated : (m : ℕ) (l : List ℕ) → m ≤ length l → drop m (take (length l + m) (l ++ l)) ≡ rotate m l
 unfolding rotate
@@ -72,41 +71,6 @@ module _ (c d k1 k2 k3 k4 k5 k6 k7 k8 k9 k10 k11 k12 k13 k14 k15 k16 : ℕ)
       (ap₂ cons e9 (ap₂ cons e10 (ap₂ cons e11 (ap₂ cons e12 (ap₂ cons e13 (ap₂ cons e14 (ap₂ cons e15 (ap₂ cons e16 refl)))))))))))))))
 
 -- ---- the other way round
-pub record Reversed (ks out : List ℕ) (i : ℕ) : Type 0 where
-  pub within : i ≤ 16
-  pub size : length out ≡ 16
-  pub are : take i out ≡ reverse (drop (16 - i) ks)
-
-pub start_back : (ks out : List ℕ) → length ks ≡ 16 → length out ≡ 16 → Reversed ks out 0
-start_back ks out n m =
-    record {
-      within = omega arith;
-      size = m;
-      are = sym (ap reverse (drop_of_length-le ks {i = 16} (omega arith)));
-    }
-
-pub next_back : (ks out : List ℕ) (i : ℕ) → length ks ≡ 16 → i < 16 → Reversed ks out i → Reversed ks (set out i (get_or ks (15 - i) 0)) (i + 1)
-next_back ks out i n h a =
-    let k : ℕ = get_or ks (15 - i) 0 in
-    let e : suc (15 - i) ≡ 16 - i = omega arith in
-    let e' : 15 - i ≡ 16 - (i + 1) = omega arith in
-    record {
-      within = omega arith;
-      size = length-set out i k ∙ a.size;
-      are =
-          ap (λ (j : ℕ). take j (set out i k)) (add-one i) ∙ take-suc-set out i k (omega (arith, a.size))
-          ∙ ap (λ (x : List ℕ). x ++ (k ∷ [])) a.are
-          ∙ sym (reverse-cons k (drop (16 - i) ks))
-          ∙ ap (λ (j : ℕ). reverse (k ∷ drop j ks)) (sym e)
-          ∙ ap reverse (sym (drop-cons ks (15 - i) 0 (omega arith)))
-          ∙ ap (λ (j : ℕ). reverse (drop j ks)) e';
-    }
-
-pub done_back : (ks out : List ℕ) (i : ℕ) → 16 ≤ i → Reversed ks out i → out ≡ reverse ks
-done_back ks out i h a =
-    let e : i ≡ 16 = omega (arith, a.within) in
-    sym (take_all i out (omega (arith, a.size))) ∙ a.are ∙ ap (λ (j : ℕ). reverse (drop (16 - j) ks)) e
-
 map_reverse_aux : (f : ℕ → List ℕ) (l r : List ℕ) → map f (reverse_aux l r) ≡ reverse_aux (map f l) (map f r)
 map_reverse_aux f [] r = refl
 map_reverse_aux f (x ∷ l) r = map_reverse_aux f l (x ∷ r)

@@ -9,6 +9,7 @@ use lib.Dec.{T}
 use lib.Pow.{pow_pos, mod-pow-add, shr-shr}
 use lib.Bits.{bit_xor, xor_shifted}
 use lib.ListN.{length, get_or}
+use Rattle.std.proofs.lemmas.Nat.{xor_comm}
 use Rattle.des_spec.specs.Bits.{binary, xor}
 use Rattle.des_spec.specs.Des.{permute}
 use Rattle.des_spec.specs.Tables.{PC2}
@@ -37,19 +38,20 @@ start x = record {
 }
 
 pub next : (t : List ℕ) (x y sum j : ℕ) → Chosen t → j < 14 → Summed x y sum j
-    → Summed x (y / 16) (bit_xor (get_or t (j * 16 + y % 16) 0) sum) (j + 1)
+    → Summed x (y / 16) (bit_xor sum (get_or t (16 * j + y % 16) 0)) (j + 1)
 next t x y sum j q h p =
     let e : 4 * (j + 1) ≡ 4 * j + 4 = omega arith in
     let e' : 4 * (j + 1) ≡ 4 + 4 * j = omega arith in
     let digit : y % 16 ≡ x / 2 ^ (4 * j) % 2 ^ 4 = ap (λ (k : ℕ). k % 16) p.rest in
-    let column : (j * 16 + y % 16) / 16 ≡ j = omega arith in
-    let row : (j * 16 + y % 16) % 16 ≡ y % 16 = omega arith in
+    let column : (16 * j + y % 16) / 16 ≡ j = omega arith in
+    let row : (16 * j + y % 16) % 16 ≡ y % 16 = omega arith in
     record {
       within = omega arith;
       rest = ap (λ (k : ℕ). k / 16) p.rest ∙ shr-shr x (4 * j) 4 ∙ ap (λ (k : ℕ). x / 2 ^ k) (sym e);
       sums =
-          key_xor (get_or t (j * 16 + y % 16) 0) sum
-          ∙ ap₂ xor (q.each (j * 16 + y % 16) (omega (arith, q.size)) ∙ ap₂ (λ (a b : ℕ). permute PC2 (binary 56 (a * 2 ^ (4 * b)))) row column) p.sums
+          ap key_bits (xor_comm sum (get_or t (16 * j + y % 16) 0))
+          ∙ key_xor (get_or t (16 * j + y % 16) 0) sum
+          ∙ ap₂ xor (q.each (16 * j + y % 16) (omega (arith, q.size)) ∙ ap₂ (λ (a b : ℕ). permute PC2 (binary 56 (a * 2 ^ (4 * b)))) row column) p.sums
           ∙ sym (permute-xor PC2 56 (y % 16 * 2 ^ (4 * j)) (x % 2 ^ (4 * j)))
           ∙ ap (λ (k : ℕ). permute PC2 (binary 56 k))
           (xor_shifted (y % 16) (4 * j) (x % 2 ^ (4 * j)) (mod-lt x (pow_pos (4 * j)))

@@ -5,7 +5,8 @@ use mathlib.Core.List.{List, [], ◌∷◌, ◌++◌, zip_with}
 use Prim.Native.Nat.{ℕ, zero, suc, ◌+◌, ◌-◌, ◌*◌, ◌/◌, ◌%◌, ◌^◌, ◌<◌}
 use native.Mathlib.Nat.{mul-one}
 use native.Mathlib.Omega.{arith}
-use lib.Bits.{bit_xor, xor_shr}
+use lib.Bits.{bit_xor, bit_or, xor_shr, or_shifted, or_shifted_r}
+use Rattle.std.specs.Int.{w32, rotate_left, rotate_right}
 use lib.Dec.{T, ltb, ltb→lt, lit<}
 use lib.ListN.{get_or, take, drop}
 use Rattle.des_spec.specs.Bits.{binary, number, xor, binaries}
@@ -28,10 +29,21 @@ left r = (r % 2147483648) * 2 + r / 2147483648
 
 -- a word with the six bits for S1, S3, S5 and S7, a byte each, and one with those for the others
 abbrev pub odd : ℕ → ℕ → ℕ
-odd r k = bit_xor (right r) (k / 2 ^ 32)
+odd p k = bit_xor p (k / 2 ^ 32)
 
 abbrev pub even : ℕ → ℕ → ℕ
-even r k = bit_xor (left r) (k % 2 ^ 32)
+even q k = bit_xor q (k % 2 ^ 32)
+
+-- the library's words for the two
+pub turned_right : (r : ℕ) → r < 2 ^ 32 → rotate_right w32 r 3 ≡ right r
+turned_right r h =
+    let e : r * 536870912 % 4294967296 ≡ r % 8 * 536870912 = omega arith in
+    ap (bit_or (r / 8)) e ∙ or_shifted_r (r % 8) 29 (r / 8) (omega arith)
+
+pub turned_left : (r : ℕ) → r < 2 ^ 32 → rotate_left w32 r 1 ≡ left r
+turned_left r h =
+    let e : r * 2 % 4294967296 ≡ r % 2147483648 * 2 = omega arith in
+    ap (λ (x : ℕ). bit_or x (r / 2147483648)) e ∙ or_shifted (r % 2147483648) 1 (r / 2147483648) (omega arith)
 
 group : (s p q : ℕ) → binary 6 (bit_xor p q / 2 ^ s % 64) ≡ xor (digits_from 6 s p) (digits_from 6 s q)
 group s p q =
@@ -125,37 +137,41 @@ word i j y w s e b h =
     ∙ unplaced i j y e
     ∙ ap (λ (x : List (List ℕ)). permute P (binary 32 (select x (binary 6 (y % 64)) * 2 ^ (28 - 4 * j)))) b
 
-module _ (r k : ℕ) {w0 w1 w2 w3 w4 w5 w6 w7 : ℕ} (h : r < 2 ^ 32)
-    (e0 : Word (odd r k / 2 ^ 24 % 64) w0)
-    (e1 : Word (64 + even r k / 2 ^ 24 % 64) w1)
-    (e2 : Word (128 + odd r k / 2 ^ 16 % 64) w2)
-    (e3 : Word (192 + even r k / 2 ^ 16 % 64) w3)
-    (e4 : Word (256 + odd r k / 2 ^ 8 % 64) w4)
-    (e5 : Word (320 + even r k / 2 ^ 8 % 64) w5)
-    (e6 : Word (384 + odd r k % 64) w6)
-    (e7 : Word (448 + even r k % 64) w7) where
+module _ (r k p q : ℕ) {w0 w1 w2 w3 w4 w5 w6 w7 : ℕ} (h : r < 2 ^ 32) (ep : p ≡ rotate_right w32 r 3) (eq : q ≡ rotate_left w32 r 1)
+    (e0 : Word (odd p k / 2 ^ 24 % 64) w0)
+    (e1 : Word (64 + even q k / 2 ^ 24 % 64) w1)
+    (e2 : Word (128 + odd p k / 2 ^ 16 % 64) w2)
+    (e3 : Word (192 + even q k / 2 ^ 16 % 64) w3)
+    (e4 : Word (256 + odd p k / 2 ^ 8 % 64) w4)
+    (e5 : Word (320 + even q k / 2 ^ 8 % 64) w5)
+    (e6 : Word (384 + odd p k % 64) w6)
+    (e7 : Word (448 + even q k % 64) w7) where
   parts : Part P 32 32 32
-      (four S1 (odd r k / 2 ^ 24 % 64) ++ (four S2 (even r k / 2 ^ 24 % 64) ++ (four S3 (odd r k / 2 ^ 16 % 64)
-      ++ (four S4 (even r k / 2 ^ 16 % 64) ++ (four S5 (odd r k / 2 ^ 8 % 64) ++ (four S6 (even r k / 2 ^ 8 % 64)
-      ++ (four S7 (odd r k % 64) ++ four S8 (even r k % 64))))))))
+      (four S1 (odd p k / 2 ^ 24 % 64) ++ (four S2 (even q k / 2 ^ 24 % 64) ++ (four S3 (odd p k / 2 ^ 16 % 64)
+      ++ (four S4 (even q k / 2 ^ 16 % 64) ++ (four S5 (odd p k / 2 ^ 8 % 64) ++ (four S6 (even q k / 2 ^ 8 % 64)
+      ++ (four S7 (odd p k % 64) ++ four S8 (even q k % 64))))))))
       (bit_xor w0 (bit_xor w1 (bit_xor w2 (bit_xor w3 (bit_xor w4 (bit_xor w5 (bit_xor w6 w7)))))))
   unfolding S S1 S2 S3 S4 S5 S6 S7 S8
   parts =
-      more 4 (select S1 (binary 6 (odd r k / 2 ^ 24 % 64))) w0 (entry_small S1 _ tt) (word _ 0 (odd r k / 2 ^ 24) w0 S1 (omega arith) refl e0)
-      (more 4 (select S2 (binary 6 (even r k / 2 ^ 24 % 64))) w1 (entry_small S2 _ tt) (word _ 1 (even r k / 2 ^ 24) w1 S2 refl refl e1)
-      (more 4 (select S3 (binary 6 (odd r k / 2 ^ 16 % 64))) w2 (entry_small S3 _ tt) (word _ 2 (odd r k / 2 ^ 16) w2 S3 refl refl e2)
-      (more 4 (select S4 (binary 6 (even r k / 2 ^ 16 % 64))) w3 (entry_small S4 _ tt) (word _ 3 (even r k / 2 ^ 16) w3 S4 refl refl e3)
-      (more 4 (select S5 (binary 6 (odd r k / 2 ^ 8 % 64))) w4 (entry_small S5 _ tt) (word _ 4 (odd r k / 2 ^ 8) w4 S5 refl refl e4)
-      (more 4 (select S6 (binary 6 (even r k / 2 ^ 8 % 64))) w5 (entry_small S6 _ tt) (word _ 5 (even r k / 2 ^ 8) w5 S6 refl refl e5)
-      (more 4 (select S7 (binary 6 (odd r k % 64))) w6 (entry_small S7 _ tt) (word _ 6 (odd r k) w6 S7 refl refl e6)
-      (first (entry_small S8 _ tt) (word _ 7 (even r k) w7 S8 refl refl e7 ∙ ap (λ (x : ℕ). permute P (binary 32 x)) (mul-one _)))))))))
+      more 4 (select S1 (binary 6 (odd p k / 2 ^ 24 % 64))) w0 (entry_small S1 _ tt) (word _ 0 (odd p k / 2 ^ 24) w0 S1 (omega arith) refl e0)
+      (more 4 (select S2 (binary 6 (even q k / 2 ^ 24 % 64))) w1 (entry_small S2 _ tt) (word _ 1 (even q k / 2 ^ 24) w1 S2 refl refl e1)
+      (more 4 (select S3 (binary 6 (odd p k / 2 ^ 16 % 64))) w2 (entry_small S3 _ tt) (word _ 2 (odd p k / 2 ^ 16) w2 S3 refl refl e2)
+      (more 4 (select S4 (binary 6 (even q k / 2 ^ 16 % 64))) w3 (entry_small S4 _ tt) (word _ 3 (even q k / 2 ^ 16) w3 S4 refl refl e3)
+      (more 4 (select S5 (binary 6 (odd p k / 2 ^ 8 % 64))) w4 (entry_small S5 _ tt) (word _ 4 (odd p k / 2 ^ 8) w4 S5 refl refl e4)
+      (more 4 (select S6 (binary 6 (even q k / 2 ^ 8 % 64))) w5 (entry_small S6 _ tt) (word _ 5 (even q k / 2 ^ 8) w5 S6 refl refl e5)
+      (more 4 (select S7 (binary 6 (odd p k % 64))) w6 (entry_small S7 _ tt) (word _ 6 (odd p k) w6 S7 refl refl e6)
+      (first (entry_small S8 _ tt) (word _ 7 (even q k) w7 S8 refl refl e7 ∙ ap (λ (x : ℕ). permute P (binary 32 x)) (mul-one _)))))))))
 
   pub cipher_law : binary 32 (bit_xor w0 (bit_xor w1 (bit_xor w2 (bit_xor w3 (bit_xor w4 (bit_xor w5 (bit_xor w6 w7)))))))
       ≡ cipher (binary 32 r) (key_bits k)
   unfolding cipher
   cipher_law =
+      let from_right : right r ≡ p = sym (ep ∙ turned_right r h) in
+      let from_left : left r ≡ q = sym (eq ∙ turned_left r h) in
       whole parts
       ∙ ap (permute P)
-      (sym (ap (λ (x : List ℕ). binaries 4 (selects S x)) (expanded r k ∙ turned r k h ∙ taken (right r) (left r) (k / 2 ^ 32) (k % 2 ^ 32))
-      ∙ boxed (odd r k / 2 ^ 24 % 64) (even r k / 2 ^ 24 % 64) (odd r k / 2 ^ 16 % 64) (even r k / 2 ^ 16 % 64)
-      (odd r k / 2 ^ 8 % 64) (even r k / 2 ^ 8 % 64) (odd r k % 64) (even r k % 64)))
+      (sym (ap (λ (x : List ℕ). binaries 4 (selects S x)) (expanded r k ∙ turned r k h
+      ∙ (λ i. sixes (binary 32 (from_right i)) (binary 32 (from_left i)) (binary 32 (k / 2 ^ 32)) (binary 32 (k % 2 ^ 32)))
+      ∙ taken p q (k / 2 ^ 32) (k % 2 ^ 32))
+      ∙ boxed (odd p k / 2 ^ 24 % 64) (even q k / 2 ^ 24 % 64) (odd p k / 2 ^ 16 % 64) (even q k / 2 ^ 16 % 64)
+      (odd p k / 2 ^ 8 % 64) (even q k / 2 ^ 8 % 64) (odd p k % 64) (even q k % 64)))

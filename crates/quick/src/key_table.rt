@@ -1,8 +1,8 @@
-// Permuted choice 2 as a table of words by nibbles. Whoever makes round keys makes it once and lends it.
+// Permuted choice 2 as a table of words by nibbles.
 ghost use Rattle.quick.specs.Words.{Chosen};
 
 // At 16 * j + v: the round key's word of halves with the nibble v at place j, counted from the low end, and zeros elsewhere.
-const PC2: [u64; 224] = [
+static PC2: [u64; 224] = [
     0x0,
     0x400000000,
     0x10000000000,
@@ -230,8 +230,8 @@ const PC2: [u64; 224] = [
 ];
 
 // The table.
-pub fn choices() -> [u64; 224]
-    ensures { Chosen result }
+pub fn choices() -> &'static [u64; 224]
+    ensures { Chosen result.now }
 {
-    PC2
+    &PC2
 }

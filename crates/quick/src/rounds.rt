@@ -3,7 +3,7 @@ ghost use Rattle.std.specs.Prelude.{◌≡◌, map, length, take, drop};
 ghost use Rattle.std.specs.Int.Bits.{bit_xor, bit_and};
 ghost use Rattle.des_spec.specs.Bits.{binary};
 ghost use Rattle.des_spec.specs.Des.{cipher, rounds};
-ghost use Rattle.quick.specs.Words.{key_bits, Boxed};
+ghost use Rattle.quick.specs.Words.{key_bits};
 
 use crate::table::word;
 
@@ -16,35 +16,31 @@ fn join(a: u32, b: u32) -> u32
 }
 
 // The cipher function. Turned right by three and left by one, a half has the six bits for each selection function in a byte of its own.
-fn cipher(t: &[u32; 512], r: u32, k: u64) -> u32
-    requires { Boxed t.now }
+fn cipher(r: u32, k: u64) -> u32
     ensures { binary 32 result ≡ cipher (binary 32 r) (key_bits k) }
 {
-    let a = ((r % 8) * 0x2000_0000 + r / 8) ^ ((k >> 32) as u32);
-    let b = ((r % 0x8000_0000) * 2 + r / 0x8000_0000) ^ ((k % 0x1_0000_0000) as u32);
-    let w0 = word(t, ((a >> 24) % 64) as usize);
-    let w1 = word(t, (64 + (b >> 24) % 64) as usize);
-    let w2 = word(t, (128 + (a >> 16) % 64) as usize);
-    let w3 = word(t, (192 + (b >> 16) % 64) as usize);
-    let w4 = word(t, (256 + (a >> 8) % 64) as usize);
-    let w5 = word(t, (320 + (b >> 8) % 64) as usize);
-    let w6 = word(t, (384 + a % 64) as usize);
-    let w7 = word(t, (448 + b % 64) as usize);
+    let a = r.rotate_right(3) ^ ((k >> 32) as u32);
+    let b = r.rotate_left(1) ^ ((k % 0x1_0000_0000) as u32);
+    let w0 = word(((a >> 24) % 64) as usize);
+    let w1 = word((64 + (b >> 24) % 64) as usize);
+    let w2 = word((128 + (a >> 16) % 64) as usize);
+    let w3 = word((192 + (b >> 16) % 64) as usize);
+    let w4 = word((256 + (a >> 8) % 64) as usize);
+    let w5 = word((320 + (b >> 8) % 64) as usize);
+    let w6 = word((384 + a % 64) as usize);
+    let w7 = word((448 + b % 64) as usize);
     join(join(w0, w1), join(w2, w3)) ^ join(join(w4, w5), join(w6, w7))
 }
 
 // The sixteen rounds on the two halves of a word, two a turn; the halves of the last are exchanged.
-pub fn rounds(t: &[u32; 512], ks: &[u64; 16], b: u64) -> u64
-    requires { Boxed t.now × (length ks.now ≡ 16) }
+pub fn rounds(ks: &[u64; 16], b: u64) -> u64
     ensures { binary 64 result ≡ rounds (map key_bits ks.now) (take 32 (binary 64 b)) (drop 32 (binary 64 b)) }
 {
     let mut l = (b / 0x1_0000_0000) as u32;
     let mut r = (b % 0x1_0000_0000) as u32;
-    let mut i: usize = 0;
-    while i < 8 {
-        l = l ^ cipher(t, r, ks[2 * i]);
-        r = r ^ cipher(t, l, ks[2 * i + 1]);
-        i += 1;
+    for i in 0..8 {
+        l ^= cipher(r, ks[2 * i]);
+        r ^= cipher(l, ks[2 * i + 1]);
     }
     (r as u64) * 0x1_0000_0000 + (l as u64)
 }

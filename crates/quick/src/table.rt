@@ -1,9 +1,9 @@
-// The selection functions joined with the permutation behind them, in one table of 512 words. Whoever ciphers makes it once and lends it.
+// The selection functions joined with the permutation behind them, in one table of 512 words.
 ghost use Rattle.std.specs.Prelude.{◌<◌};
 ghost use Rattle.quick.specs.Words.{Word, Boxed};
 
 // At 64 * i + x: function i at the six bits x, in its place and permuted.
-const WORDS: [u32; 512] = [
+static WORDS: [u32; 512] = [
     0x808200, // S1
     0x0, 0x8000, 0x808202, 0x808002, 0x8202, 0x2, 0x8000, 0x200, 0x808200, 0x808202, 0x200,
     0x800202, 0x808002, 0x800000, 0x2, 0x202, 0x800200, 0x800200, 0x8200, 0x8200, 0x808000,
@@ -65,16 +65,16 @@ const WORDS: [u32; 512] = [
 ];
 
 // The table.
-pub fn boxes() -> [u32; 512]
-    ensures { Boxed result }
+pub fn boxes() -> &'static [u32; 512]
+    ensures { Boxed result.now }
 {
-    WORDS
+    &WORDS
 }
 
 // The word of a selection function at six bits.
-pub fn word(t: &[u32; 512], i: usize) -> u32
-    requires { Boxed t.now × (i < 512) }
+pub fn word(i: usize) -> u32
+    requires { i < 512 }
     ensures { Word i result }
 {
-    t[i]
+    boxes()[i]
 }

@@ -4,3 +4,4 @@ pub mod Reading
 pub mod Places
 pub mod Fields
 pub mod WhoMay
+pub mod Levels

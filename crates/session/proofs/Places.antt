@@ -1,9 +1,10 @@
 -- The packed session byte by byte, as the head of `Packing` prints it: the mark, the flags, the numbers of level, key set and what is
 -- pending, the keys and chains at their places. Assumes nothing.
-use mathlib.Core.Bool.{Bool, true, false}
+use mathlib.Core.Bool.{Bool}
 use mathlib.Core.List.{List}
 use mathlib.Core.Path.{◌≡◌, refl, ◌∙◌}
 use Prim.Native.Nat.{ℕ}
+use borrow.Author.Rules.{rules}
 use lib.ListN.{length}
 use Rattle.octets.specs.Choice.{pick}
 use Rattle.octets.specs.Bytes.{byte_at}
@@ -62,29 +63,15 @@ amount_word (Crediting amount) = amount
 
 level_is : (level : Level) → level_number level ≡ level_byte level
 unfolding level_number set_number
-level_is Closed = refl
-level_is (Mac Debit) = refl
-level_is (Mac Credit) = refl
-level_is (Mac Admin) = refl
-level_is (Rmac Debit) = refl
-level_is (Rmac Credit) = refl
-level_is (Rmac Admin) = refl
+level_is level = search rules
 
 pending_is : (pending : Pending) → pending_number pending ≡ pending_byte pending
 unfolding pending_number set_number
-pending_is Nothing = refl
-pending_is (Update Debit) = refl
-pending_is (Update Credit) = refl
-pending_is (Update Admin) = refl
-pending_is (Debiting amount) = refl
-pending_is (Crediting amount) = refl
+pending_is pending = search rules
 
 amount-is : (pending : Pending) → amount_of pending ≡ amount_word pending
 unfolding amount_of
-amount-is Nothing = refl
-amount-is (Update set) = refl
-amount-is (Debiting amount) = refl
-amount-is (Crediting amount) = refl
+amount-is pending = search rules
 
 -- ---- the places
 
@@ -102,8 +89,7 @@ pub record Places (s : Session) (l : List ℕ) : Type 0 where
   pub keys : Keyed s l
 
 flag_is : (b : Bool) → flag_byte b ≡ pick b 0x01 0x00
-flag_is true = refl
-flag_is false = refl
+flag_is b = search rules
 
 -- every session's packing is so
 pub packed-places : {s : Session} → Sized s → Places s (packed s)

@@ -1,7 +1,7 @@
 -- The packed session: 128 bytes, which read back as the session and as no other; what reads as a session is its packing, and zeros
 -- are none. Assumes nothing.
 use Prim.Native.Nat.{ℕ, zero, suc, ◌+◌}
-use mathlib.Core.Bool.{Bool, true, false, false≢true}
+use mathlib.Core.Bool.{Bool, true, false}
 use mathlib.Core.List.{List, ◌++◌, append_assoc}
 use mathlib.Core.Option.{Option, none, some}
 use mathlib.Core.Path.{◌≡◌, refl, sym, ap, ◌∙◌}
@@ -9,6 +9,7 @@ use native.Mathlib.Omega.{arith}
 use lib.Dec.{eqb}
 use lib.ListN.{length, drop}
 use lib.Seq.{drop-drop, drop_at, take_at}
+use Rattle.std.specs.Prelude.{Some, None}
 use Rattle.octets.specs.Choice.{pick}
 use Rattle.octets.specs.Bytes.{AreBytes, Octets, zeros, field, byte_at, same}
 use Rattle.octets.specs.Words.{word_at}
@@ -16,11 +17,10 @@ use Rattle.octets.proofs.Numbers.{word_read, word-at_below}
 use Rattle.octets.proofs.Equality.{same_refl, same_equal, byte_differs}
 use Rattle.octets.proofs.Octets.{cons_octets, append_octets, zeros_octets, word_octets, field_octets, flag_below}
 use Rattle.session.specs.declared.Session.{Session}
-use Rattle.session.specs.Transitions.{unselected}
 use Rattle.session.specs.Codes.{level_of, pending_of, amount_of}
 use Rattle.session.specs.Packing.{heading, packed, decoded_channel, decoded_offer, decoded, unpacked, unpacking, shown}
 use Rattle.session.proofs.RoundTrip.{flag_read, level_read, pending_read, level_small, pending_small, amount_small}
-use Rattle.session.proofs.Sizes.{Sized, unselected-sized}
+use Rattle.session.proofs.Sizes.{Sized}
 
 -- from a place on, l has x and then the rest
 record Stands (l : List ℕ) (at : ℕ) (x rest : List ℕ) : Type 0 where
@@ -146,7 +146,7 @@ decoded-sized l f =
 
 by_test : (b : Bool) (x s : Session) → pick b (some x) none ≡ some s → (b ≡ true) × (x ≡ s)
 by_test true x s e = (refl, cc)
-by_test false x s e = let z : ◌≡◌ {A = ℕ} 0 1 = cc in absurd (omega arith)
+by_test false x s e = absurd (cc)
 
 module _ (l : List ℕ) (s : Session) (e : unpacked l ≡ some s) where
   tested : (same (packed (decoded l)) l ≡ true) × (decoded l ≡ s)
@@ -186,26 +186,29 @@ zeros-none n = rw (byte_differs (packed (decoded (zeros n))) (zeros n) 0 (marked
 
 -- ---- the same of `unpacking`
 
-shown_ok : (o : Option Session) → (shown o).ok ≡ true → o ≡ some (shown o).session
-shown_ok none e = absurd (false≢true e)
-shown_ok (some s) e = refl
+shown_some : (o : Option Session) (s : Session) → shown o ≡ Some s → o ≡ some s
+shown_some none s e = cc
+shown_some (some t) s e = cc
 
-shown-sized : (o : Option Session) → ((s : Session) → o ≡ some s → Sized s) → Sized (shown o).session
-shown-sized none f = unselected-sized
-shown-sized (some s) f = f s refl
+shown_none : (o : Option Session) → shown o ≡ None → o ≡ none
+shown_none none e = refl
+shown_none (some s) e = cc
 
-pub unpacking_back : {s : Session} → Sized s → unpacking (packed s) ≡ record { ok = true; session = s }
+pub unpacking_back : {s : Session} → Sized s → unpacking (packed s) ≡ Some s
 unfolding unpacking
 unpacking_back h = rw (reads_back h)
 
-pub unpacking-zeros : (n : ℕ) → unpacking (zeros n) ≡ record { ok = false; session = unselected }
+pub unpacking-zeros : (n : ℕ) → unpacking (zeros n) ≡ None
 unfolding unpacking
 unpacking-zeros n = rw (zeros-none n)
 
-pub unpacking-ok : (l : List ℕ) → (unpacking l).ok ≡ true → unpacked l ≡ some (unpacking l).session
+pub unpacking-some : (l : List ℕ) (s : Session) → unpacking l ≡ Some s → unpacked l ≡ some s
 unfolding unpacking
-unpacking-ok l e = shown_ok (unpacked l) e
+unpacking-some l s e = shown_some (unpacked l) s e
 
-pub unpacking-sized : (l : List ℕ) → AreBytes l → Sized (unpacking l).session
+pub unpacking-none : (l : List ℕ) → unpacking l ≡ None → unpacked l ≡ none
 unfolding unpacking
-unpacking-sized l f = shown-sized (unpacked l) (λ s e. reads_sized l s e f)
+unpacking-none l e = shown_none (unpacked l) e
+
+pub unpacking-sized : (l : List ℕ) (s : Session) → AreBytes l → unpacking l ≡ Some s → Sized s
+unpacking-sized l s f e = reads_sized l s (unpacking-some l s e) f

@@ -2,6 +2,8 @@
 -- CREDIT-IDENT (set 2 and PIN validated) is no access any more: by request 1 of document 02 a bank credit needs CREDIT and the PIN flag,
 -- in commands_spec's `InitializeTransaction.entitled`, and nothing else asked for it. Assumes nothing.
 use Rattle.std.specs.Prelude.{Bool, true, false, ℕ}
+use Rattle.session.specs.declared.access.Access.{Access}
+use Rattle.session.specs.declared.access.Access.TheVariants as levels
 use Rattle.session.specs.declared.Set.{Set}
 use Rattle.session.specs.declared.Set.TheVariants.{Debit, Credit, Admin}
 use Rattle.session.specs.declared.Level.{Level}
@@ -22,6 +24,13 @@ CREDIT = 2
 -- set 3
 abbrev pub ADMIN : ℕ
 ADMIN = 3
+
+-- the number of an access level of the code
+abbrev pub rank : Access → ℕ
+rank levels.Public = PUBLIC
+rank levels.Debit = DEBIT
+rank levels.Credit = CREDIT
+rank levels.Admin = ADMIN
 
 -- what a key set gives
 unfoldable pub access_of : Set → ℕ

@@ -1,7 +1,7 @@
 -- The session in the C host's 128 bytes: document 01, "every session handed out reads back as itself". Assumes nothing.
 --   0 the mark 01; 1 selected; 2 PIN flag; 3 the channel's level and key set; 4 what is pending; 5 its amount, two bytes; 7 zero;
 --   8 ENC, 24 MAC, 40 last C-MAC, 48 last R-MAC; 56 the offer's ENC, 72 MAC, 88 host cryptogram; 96 zeros.
-use Rattle.std.specs.Prelude.{true, false, List, [], ◌∷◌, ◌++◌, ℕ, ◌/◌, ◌%◌, eqb}
+use Rattle.std.specs.Prelude.{Option as Optional, Some, None, List, [], ◌∷◌, ◌++◌, ℕ, ◌/◌, ◌%◌, eqb}
 use Rattle.std.proofs.Math.Option.{Option, none, some}
 use Rattle.octets.specs.Choice.{pick}
 use Rattle.octets.specs.Bytes.{zeros, byte_at, field, same}
@@ -10,8 +10,6 @@ use Rattle.octets.specs.Tests.{flag_byte}
 use Rattle.session.specs.declared.Channel.{Channel}
 use Rattle.session.specs.declared.Offer.{Offer}
 use Rattle.session.specs.declared.Session.{Session}
-use Rattle.session.specs.declared.packing.Unpacked.{Unpacked}
-use Rattle.session.specs.Transitions.{unselected}
 use Rattle.session.specs.Codes.{level_number, level_of, pending_number, amount_of, pending_of}
 
 -- the eight bytes before the keys
@@ -50,11 +48,11 @@ decoded l =
 unfoldable pub unpacked : List ℕ → Option Session
 unpacked l = pick (same (packed (decoded l)) l) (some (decoded l)) none
 
--- a session, or the lack of one, as a value: then `ok` is false and the session the unselected one
-abbrev pub shown : Option Session → Unpacked
-shown none = record { ok = false; session = unselected }
-shown (some s) = record { ok = true; session = s }
+-- a session, or the lack of one, as the code's option
+abbrev pub shown : Option Session → Optional Session
+shown none = None
+shown (some s) = Some s
 
--- what bytes read as, as a value
-unfoldable pub unpacking : List ℕ → Unpacked
+-- what bytes read as, as the code's option
+unfoldable pub unpacking : List ℕ → Optional Session
 unpacking l = shown (unpacked l)

@@ -1,58 +1,57 @@
 // What a channel gives access to.
 ghost use Rattle.std.specs.Prelude.{◌≡◌};
-ghost use Rattle.session.specs.Access.{access_of, access, is_open, has_rmac};
+ghost use Rattle.session.specs.Access.{rank, access_of, access, is_open, has_rmac};
 
 use crate::{Level, Set};
 
-// The access levels, each including those below.
-pub const PUBLIC: u8 = 0;
+// The access levels, each including those before it.
+#[derive(Clone, Copy, Debug, PartialEq, Eq, PartialOrd, Ord)]
+pub enum Access {
+    Public,
+    Debit,
+    Credit,
+    Admin,
+}
 
-pub const DEBIT: u8 = 1;
-
-pub const CREDIT: u8 = 2;
-
-pub const ADMIN: u8 = 3;
-
-// What a key set gives.
-pub fn access_of(set: Set) -> u8
-    ensures { result ≡ access_of set }
-{
-    match set {
-        Set::Debit => DEBIT,
-        Set::Credit => CREDIT,
-        Set::Admin => ADMIN,
+impl Set {
+    // What a key set gives.
+    #[tactic(auto, unfolding(crate::specs::Access::access_of))]
+    pub fn access(self) -> Access
+        ensures { rank result ≡ access_of self }
+    {
+        match self {
+            Set::Debit => Access::Debit,
+            Set::Credit => Access::Credit,
+            Set::Admin => Access::Admin,
+        }
     }
 }
 
-// What a channel gives.
-pub fn access(level: Level) -> u8
-    ensures { result ≡ access level }
-{
-    match level {
-        Level::Closed => PUBLIC,
-        Level::Mac(set) => access_of(set),
-        Level::Rmac(set) => access_of(set),
+impl Level {
+    // What a channel gives.
+    #[tactic(auto, unfolding(crate::specs::Access::access))]
+    pub fn access(self) -> Access
+        ensures { rank result ≡ access self }
+    {
+        match self {
+            Level::Closed => Access::Public,
+            Level::Mac(set) | Level::Rmac(set) => set.access(),
+        }
     }
-}
 
-// Whether there is a channel.
-pub fn is_open(level: Level) -> bool
-    ensures { result ≡ is_open level }
-{
-    match level {
-        Level::Closed => false,
-        Level::Mac(_) => true,
-        Level::Rmac(_) => true,
+    // Whether there is a channel.
+    #[tactic(auto, unfolding(crate::specs::Access::is_open))]
+    pub fn is_open(self) -> bool
+        ensures { result ≡ is_open self }
+    {
+        !matches!(self, Level::Closed)
     }
-}
 
-// Whether its answers carry an R-MAC.
-pub fn has_rmac(level: Level) -> bool
-    ensures { result ≡ has_rmac level }
-{
-    match level {
-        Level::Closed => false,
-        Level::Mac(_) => false,
-        Level::Rmac(_) => true,
+    // Whether its answers carry an R-MAC.
+    #[tactic(auto, unfolding(crate::specs::Access::has_rmac))]
+    pub fn has_rmac(self) -> bool
+        ensures { result ≡ has_rmac self }
+    {
+        matches!(self, Level::Rmac(_))
     }
 }

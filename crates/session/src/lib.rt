@@ -1,28 +1,23 @@
 // The session: a value that each call takes and hands back.
 #![tactic(auto)]
 
-pub mod access;
+mod access;
 mod codes;
 mod packing;
 mod transitions;
 
-pub use access::{ADMIN, CREDIT, DEBIT, PUBLIC, access_of, has_rmac, is_open};
-pub use codes::{amount_of, opened_by, set_number, set_of};
-pub use packing::{Unpacked, pack, unpack};
-pub use transitions::{
-    answered, chained, closed, ended, flagged, offered, opened, reselected, unselected,
-};
+pub use access::Access;
 
 // Key sets 1, 2 and 3.
-#[derive(Clone, Copy)]
+#[derive(Clone, Copy, Debug, PartialEq, Eq)]
 pub enum Set {
-    Debit,
-    Credit,
-    Admin,
+    Debit = 1,
+    Credit = 2,
+    Admin = 3,
 }
 
 // The secure channel: none, or the key set that opened it, at security level 01 (C-MAC) or 11 (with R-MAC).
-#[derive(Clone, Copy)]
+#[derive(Clone, Copy, Debug, PartialEq, Eq)]
 pub enum Level {
     Closed,
     Mac(Set),
@@ -30,6 +25,7 @@ pub enum Level {
 }
 
 // The channel's session keys, its last accepted C-MAC and its last R-MAC; zeros where it is closed.
+// The keys stay beside the level: C may hand in a closed channel whose keys aren't zero, and `unpack` takes it (`reads_back`).
 #[derive(Clone, Copy)]
 pub struct Channel {
     pub level: Level,
@@ -40,7 +36,8 @@ pub struct Channel {
 }
 
 // What the last command left to be completed: INITIALIZE UPDATE under a key set, or INITIALIZE TRANSACTION of an amount.
-#[derive(Clone, Copy)]
+// No `Option` of the others: every `match` on it would have two layers, where the definitions have one.
+#[derive(Clone, Copy, Debug, PartialEq, Eq)]
 pub enum Pending {
     Nothing,
     Update(Set),
@@ -49,6 +46,7 @@ pub enum Pending {
 }
 
 // What INITIALIZE UPDATE prepared: session keys and the host cryptogram that is to come; zeros where none is pending.
+// It stays beside `Pending::Update`: C may hand in an offer that isn't zero where none is pending, and `unpack` takes it (`reads_back`).
 #[derive(Clone, Copy)]
 pub struct Offer {
     pub enc: [u8; 16],

@@ -5,135 +5,135 @@ ghost use Rattle.session.specs.Transitions.{ended, closed, reselected, flagged, 
 
 use crate::{Channel, Level, Offer, Pending, Session, Set};
 
-// The closed channel.
-fn no_channel() -> Channel
-    ensures { result ≡ no_channel }
-{
-    Channel {
-        level: Level::Closed,
-        enc: [0; 16],
-        mac: [0; 16],
-        cmac: [0; 8],
-        rmac: [0; 8],
+impl Channel {
+    // The closed channel.
+    fn closed() -> Channel
+        ensures { result ≡ no_channel }
+    {
+        Channel {
+            level: Level::Closed,
+            enc: [0; 16],
+            mac: [0; 16],
+            cmac: [0; 8],
+            rmac: [0; 8],
+        }
     }
 }
 
-// No offer.
-fn no_offer() -> Offer
-    ensures { result ≡ no_offer }
-{
-    Offer {
-        enc: [0; 16],
-        mac: [0; 16],
-        expected: [0; 8],
+impl Offer {
+    // No offer.
+    fn none() -> Offer
+        ensures { result ≡ no_offer }
+    {
+        Offer {
+            enc: [0; 16],
+            mac: [0; 16],
+            expected: [0; 8],
+        }
     }
 }
 
-// The unselected session.
-pub fn unselected() -> Session
-    ensures { result ≡ unselected }
-{
-    let channel = no_channel();
-    let offer = no_offer();
-    Session {
-        selected: false,
-        verified: false,
-        channel: channel,
-        pending: Pending::Nothing,
-        offer: offer,
+impl Session {
+    // The unselected session.
+    #[tactic(auto, unfolding(crate::specs::Transitions::unselected))]
+    pub fn unselected() -> Session
+        ensures { result ≡ unselected }
+    {
+        Session {
+            selected: false,
+            verified: false,
+            channel: Channel::closed(),
+            pending: Pending::Nothing,
+            offer: Offer::none(),
+        }
     }
-}
 
-// Nothing is pending any more.
-pub fn ended(s: Session) -> Session
-    ensures { result ≡ ended s }
-{
-    let channel = s.channel;
-    opened(channel, s)
-}
-
-// And the channel is closed.
-pub fn closed(s: Session) -> Session
-    ensures { result ≡ closed s }
-{
-    opened(no_channel(), s)
-}
-
-// After a SELECT that reached its AID, right or not.
-pub fn reselected(right: bool, s: Session) -> Session
-    ensures { result ≡ reselected right s }
-{
-    let mut t = closed(s);
-    t.selected = right;
-    t
-}
-
-// The PIN flag, with nothing pending.
-pub fn flagged(verified: bool, s: Session) -> Session
-    ensures { result ≡ flagged verified s }
-{
-    let mut t = ended(s);
-    t.verified = verified;
-    t
-}
-
-// An INITIALIZE UPDATE is pending; the channel stays.
-pub fn offered(set: Set, offer: Offer, s: Session) -> Session
-    ensures { result ≡ offered set offer s }
-{
-    let channel = s.channel;
-    Session {
-        selected: s.selected,
-        verified: s.verified,
-        channel: channel,
-        pending: Pending::Update(set),
-        offer: offer,
+    // Nothing is pending any more.
+    #[tactic(auto, unfolding(crate::specs::Transitions::ended))]
+    pub fn ended(self) -> Session
+        ensures { result ≡ ended self }
+    {
+        Session {
+            pending: Pending::Nothing,
+            offer: Offer::none(),
+            ..self
+        }
     }
-}
 
-// A new channel in the place of any other.
-pub fn opened(channel: Channel, s: Session) -> Session
-    ensures { result ≡ opened channel s }
-{
-    let offer = no_offer();
-    Session {
-        selected: s.selected,
-        verified: s.verified,
-        channel: channel,
-        pending: Pending::Nothing,
-        offer: offer,
+    // And the channel is closed.
+    #[tactic(auto, unfolding(crate::specs::Transitions::closed, crate::specs::Transitions::opened))]
+    pub fn closed(self) -> Session
+        ensures { result ≡ closed self }
+    {
+        self.opened(Channel::closed())
     }
-}
 
-// The chain of C-MACs moves on.
-pub fn chained(mac: [u8; 8], s: Session) -> Session
-    ensures { result ≡ chained mac s }
-{
-    let mut channel = s.channel;
-    channel.cmac = mac;
-    let offer = s.offer;
-    let pending = s.pending;
-    Session {
-        selected: s.selected,
-        verified: s.verified,
-        channel: channel,
-        pending: pending,
-        offer: offer,
+    // After a SELECT that reached its AID, right or not.
+    #[tactic(auto, unfolding(crate::specs::Transitions::reselected, crate::specs::Transitions::closed))]
+    pub fn reselected(self, right: bool) -> Session
+        ensures { result ≡ reselected right self }
+    {
+        Session {
+            selected: right,
+            ..self.closed()
+        }
     }
-}
 
-// The chain of R-MACs moves on, and what is pending is as given.
-pub fn answered(pending: Pending, mac: [u8; 8], s: Session) -> Session
-    ensures { result ≡ answered pending mac s }
-{
-    let mut channel = s.channel;
-    channel.rmac = mac;
-    let offer = no_offer();
-    Session {
-        selected: s.selected,
-        verified: s.verified,
-        channel: channel,
-        pending: pending,
-        offer: offer,
+    // The PIN flag, with nothing pending.
+    #[tactic(auto, unfolding(crate::specs::Transitions::flagged, crate::specs::Transitions::ended))]
+    pub fn flagged(self, verified: bool) -> Session
+        ensures { result ≡ flagged verified self }
+    {
+        Session {
+            verified,
+            ..self.ended()
+        }
+    }
+
+    // An INITIALIZE UPDATE is pending; the channel stays.
+    #[tactic(auto, unfolding(crate::specs::Transitions::offered))]
+    pub fn offered(self, set: Set, offer: Offer) -> Session
+        ensures { result ≡ offered set offer self }
+    {
+        Session {
+            pending: Pending::Update(set),
+            offer,
+            ..self
+        }
+    }
+
+    // A new channel in the place of any other.
+    #[tactic(auto, unfolding(crate::specs::Transitions::opened, crate::specs::Transitions::ended))]
+    pub fn opened(self, channel: Channel) -> Session
+        ensures { result ≡ opened channel self }
+    {
+        Session {
+            channel,
+            ..self.ended()
+        }
+    }
+
+    // The chain of C-MACs moves on.
+    #[tactic(auto, unfolding(crate::specs::Transitions::chained))]
+    pub fn chained(mut self, mac: [u8; 8]) -> Session
+        ensures { result ≡ chained mac self }
+    {
+        self.channel.cmac = mac;
+        self
+    }
+
+    // The chain of R-MACs moves on, and what is pending is as given.
+    #[tactic(auto, unfolding(crate::specs::Transitions::answered, crate::specs::Transitions::ended))]
+    pub fn answered(self, pending: Pending, mac: [u8; 8]) -> Session
+        ensures { result ≡ answered pending mac self }
+    {
+        Session {
+            channel: Channel {
+                rmac: mac,
+                ..self.channel
+            },
+            pending,
+            ..self.ended()
+        }
     }
 }

@@ -1,16 +1,19 @@
 -- Plans in a row under one limit, and the stores as the code makes them: each writer goes on with the room that the one before has left.
 -- Assumes nothing.
 use Prim.Native.Nat.{ℕ, zero, suc, ◌+◌, ◌-◌, ◌≤◌, ◌<◌}
-use mathlib.Core.Path.{◌≡◌, sym, ap, ◌∙◌}
+use mathlib.Core.Path.{◌≡◌, refl, sym, ap, ◌∙◌}
+use mathlib.Core.Logic.{◌≢◌}
 use mathlib.Core.List.{List, [], ◌∷◌, ◌++◌}
 use native.Mathlib.Decide.{dec_le}
 use native.Mathlib.Nat.{sub-zero, suc-sub-suc, zero-sub, lt_of_not-le}
-use native.Mathlib.Numerals.{add-one}
+use Rattle.std.proofs.lemmas.List.{take_more}
 use native.Mathlib.Omega.{arith}
 use lib.ListN.{length, get_or, take, set, length-append}
-use lib.Seq.{take_all, take-nil, take-suc, take-append-le, length-take-le}
+use lib.Seq.{take_all, take-nil, take-append-le, length-take-le}
 use Rattle.stores.specs.Stores.{Store, applied, writes, leaves}
-use Rattle.stores.proofs.Plans.{writes-length, writes-append}
+use Rattle.stores.specs.declared.Writer.{Writer}
+use Rattle.stores.specs.Writing.{Makes}
+use Rattle.stores.proofs.Plans.{writes-append}
 use Rattle.stores.proofs.Limits.{limit_zero, limit_enough}
 
 -- two plans in a row
@@ -42,39 +45,31 @@ leaves-row p q L m =
 
 -- ---- as the code makes them
 
-pub one_made : (room a v : ℕ) (m : List ℕ) → 0 < room → leaves (writes a (v ∷ [])) room m ≡ set m a v
-unfolding applied writes leaves
-one_made room a v m h = rw (take_all room (writes a (v ∷ [])) (omega arith))
-
--- one plan more: m₁ after p, which leaves the room `next`, and m₂ after q
-pub chain : (p q : List Store) (room next : ℕ) (m m₁ m₂ : List ℕ)
-    → m₁ ≡ leaves p room m → next ≡ room - length p → m₂ ≡ leaves q next m₁ → m₂ ≡ leaves (p ++ q) room m
-chain p q room next m m₁ m₂ a b c = c ∙ rw (b, a) (sym (leaves-append p q room m))
-
--- a run as far as the code has come: of the room the plan p has left `rest`, and memory, which was m, is m'
-pub record Ran (p : List Store) (room : ℕ) (m : List ℕ) (rest : ℕ) (m' : List ℕ) : Type 0 where
-  pub over : rest ≡ room - length p
-  pub left : m' ≡ leaves p room m
-
-pub ran-none : (room : ℕ) (m : List ℕ) → Ran [] room m room m
+pub made_nothing : (w : Writer) → Makes [] w w
 unfolding applied leaves
-ran-none room m = record { over = omega arith; left = rw (take-nil {A = Store} room) }
+made_nothing w = record { same_memory = refl; room = omega arith; left = rw (take-nil {A = Store} w.room) }
 
--- some bytes more, as a contract says it
-pub ran-bytes : {p : List Store} {room : ℕ} {m : List ℕ} {rest : ℕ} {m' : List ℕ} (a : ℕ) (bytes : List ℕ) {next : ℕ} {m'' : List ℕ}
-    → Ran p room m rest m' → next ≡ rest - length bytes → m'' ≡ leaves (writes a bytes) rest m' → Ran (p ++ writes a bytes) room m next m''
-ran-bytes {p} {room} {m} {rest} {m'} a bytes {next} {m''} r e h =
+-- without room no plan makes a store
+pub made_out : (p : List Store) (w : Writer) → w.room ≡ 0 → Makes p w w
+made_out p w e = record { same_memory = refl; room = omega arith; left = rw e (sym (limit_zero p w.memory.now)) }
+
+-- one plan more
+pub made_more : {p q : List Store} {w w₁ w₂ : Writer} → Makes p w w₁ → Makes q w₁ w₂ → Makes (p ++ q) w w₂
+made_more {p} {q} {w} {w₁} {w₂} a b =
     record {
-      over = (let c = r.over in omega (arith, length-append p (writes a bytes), writes-length a bytes));
-      left = chain p (writes a bytes) room rest m m' m'' r.left r.over h;
+      same_memory = b.same_memory ∙ a.same_memory;
+      room = (let x = a.room in let y = b.room in omega (arith, length-append p q));
+      left = b.left ∙ rw (a.room, a.left) (sym (leaves-append p q w.room w.memory.now));
     }
 
--- one byte more: m₁ after the first i bytes, m₂ after the next
-pub turn : (bytes : List ℕ) (i v room rest a : ℕ) (m m₁ m₂ : List ℕ) → i < length bytes → v ≡ get_or bytes i 0 → rest ≡ room - i
-    → m₁ ≡ leaves (writes a (take i bytes)) room m → m₂ ≡ leaves (writes (a + i) (v ∷ [])) rest m₁
-    → m₂ ≡ leaves (writes a (take (i + 1) bytes)) room m
-turn bytes i v room rest a m m₁ m₂ h e o e₁ e₂ =
-    let t : length (take i bytes) ≡ i = length-take-le i bytes (omega arith) in
-    let w : length (writes a (take i bytes)) ≡ i = writes-length a (take i bytes) ∙ t in
-    chain (writes a (take i bytes)) (writes (a + i) (v ∷ [])) room rest m m₁ m₂ e₁ (omega arith) e₂
-    ∙ rw (add-one, take-suc bytes i 0, writes-append, t, e)
+-- one store
+pub made_one : (a v : ℕ) {w w₁ : Writer} → w.room ≢ 0 → w₁.memory.ghost_name ≡ w.memory.ghost_name → w₁.room ≡ w.room - 1
+    → w₁.memory.now ≡ set w.memory.now a v → Makes (writes a (v ∷ [])) w w₁
+unfolding applied writes leaves
+made_one a v {w} {w₁} h n r e =
+    record { same_memory = n; room = r; left = e ∙ rw (take_all w.room (writes a (v ∷ [])) (omega arith)) }
+
+-- one byte more
+pub made_byte : (bytes : List ℕ) (i a : ℕ) {w w₁ w₂ : Writer} → i < length bytes
+    → Makes (writes a (take i bytes)) w w₁ → Makes (writes (a + i) (get_or bytes i 0 ∷ [])) w₁ w₂ → Makes (writes a (take (i + 1) bytes)) w w₂
+made_byte bytes i a {w} {w₁} {w₂} h m n = rw (take_more bytes i 0 h, writes-append, length-take-le i bytes (omega arith)) (made_more m n)

@@ -1,3 +1,4 @@
 pub mod Stores
+pub mod Writing
 pub mod Limits
 pub mod Fields

@@ -1,72 +1,54 @@
-// Single-byte stores under a limit, over any memory. `room` is the number of stores that the run may still make: a store is made where
-// there is room, and each writer hands back the room that its stores leave.
+// Single-byte stores under a limit, over any memory.
 #![tactic(auto)]
 
-ghost use Rattle.std.specs.Prelude.{◌≡◌, [], ◌∷◌, ◌-◌, ◌<◌, length, set};
-ghost use Rattle.stores.specs.Stores.{writes, leaves};
+ghost use Rattle.std.specs.Prelude.{[], ◌∷◌, ◌<◌, length};
+ghost use Rattle.stores.specs.Stores.{writes};
+ghost use Rattle.stores.specs.Writing.{Makes};
 
 use octets::paste;
 
-// The room that `n` stores leave.
-pub fn left(room: usize, n: usize) -> usize
-    ensures { result ≡ room - n }
-{
-    if room <= n {
-        return 0;
-    }
-    room - n
+// A run over memory: `room` is the number of stores that it may still make. A store is made where there is room.
+#[derive(Drop)]
+pub struct Writer<'a> {
+    pub memory: &'a mut [u8],
+    pub room: usize,
 }
 
-// The byte at an address; nothing past memory's end.
-fn store(mem: &mut [u8], at: usize, value: u8)
-    ensures { mem.new ≡ set mem.old at value }
-{
-    if at < mem.len() {
-        mem[at] = value;
+impl<'a> Writer<'a> {
+    // One store.
+    pub fn put(&mut self, at: usize, value: u8)
+        ensures { Makes (writes at (value ∷ [])) self.old self.new }
+    {
+        if self.room != 0 {
+            // no `get_mut`: once its borrow is over, a proof knows no byte of the slice
+            if at < self.memory.len() {
+                self.memory[at] = value;
+            }
+            self.room -= 1;
+        }
     }
-}
 
-// One store.
-pub fn put(mem: &mut [u8], at: usize, value: u8, room: usize) -> usize
-    ensures { (result ≡ room - 1)
-        × (mem.new ≡ leaves (writes at (value ∷ [])) room mem.old) }
-{
-    if room == 0 {
-        return 0;
+    // The bytes from an address on, a store each; copied at once where there is room for all of them.
+    pub fn put_bytes(&mut self, at: usize, bytes: &[u8])
+        ensures { Makes (writes at bytes.now) self.old self.new }
+    {
+        if self.memory.len() <= at {
+            self.room = self.room.saturating_sub(bytes.len());
+        } else if bytes.len() <= self.memory.len() - at && self.room >= bytes.len() {
+            paste(self.memory, at, bytes);
+            self.room -= bytes.len();
+        } else {
+            self.put_each(at, bytes);
+        }
     }
-    store(mem, at, value);
-    left(room, 1)
-}
 
-// The bytes from an address on, a store each; copied at once where there is room for all of them.
-pub fn put_bytes(mem: &mut [u8], at: usize, bytes: &[u8], room: usize) -> usize
-    ensures { (result ≡ room - length bytes.now)
-        × (mem.new ≡ leaves (writes at bytes.now) room mem.old) }
-{
-    if mem.len() <= at {
-        return left(room, bytes.len());
+    // The same store by store.
+    fn put_each(&mut self, at: usize, bytes: &[u8])
+        requires { at < length self.old.memory.now }
+        ensures { Makes (writes at bytes.now) self.old self.new }
+    {
+        for (i, byte) in bytes.iter().enumerate() {
+            self.put(at + i, *byte);
+        }
     }
-    if mem.len() - at < bytes.len() {
-        return put_each(mem, at, bytes, room);
-    }
-    if room < bytes.len() {
-        return put_each(mem, at, bytes, room);
-    }
-    paste(mem, at, bytes);
-    room - bytes.len()
-}
-
-// The same store by store.
-fn put_each(mem: &mut [u8], at: usize, bytes: &[u8], room: usize) -> usize
-    requires { at < length mem.old }
-    ensures { (result ≡ room - length bytes.now)
-        × (mem.new ≡ leaves (writes at bytes.now) room mem.old) }
-{
-    let mut rest = room;
-    let mut i = 0;
-    while i < bytes.len() {
-        rest = put(mem, at + i, bytes[i], rest);
-        i += 1;
-    }
-    rest
 }

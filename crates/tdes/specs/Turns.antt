@@ -8,7 +8,7 @@ use Rattle.tdes.specs.declared.modes.Way.TheVariants.{Ecb, CbcEncipher, CbcDecip
 use Rattle.tdes.specs.declared.modes.Turned.{Turned}
 
 -- a block under the outer keys, the inner keys and the outer keys again
-unfoldable pub triple_under : List (List ℕ) → List (List ℕ) → List ℕ → List ℕ
+abbrev pub triple_under : List (List ℕ) → List (List ℕ) → List ℕ → List ℕ
 triple_under outer inner block = block_under outer (block_under inner (block_under outer block))
 
 -- the mode of a cipher

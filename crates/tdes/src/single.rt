@@ -4,7 +4,8 @@ ghost use Rattle.des_spec.specs.Des.{des};
 ghost use Rattle.tdes.specs.Single.{des_text, des_each};
 
 use super::engine::Engine;
-use octets::{part8, paste};
+use super::rounds::{PlainKeys, QuickKeys, RoundKeys};
+use octets::{part, paste};
 
 // A block under a key.
 pub fn des_block(engine: Engine, key: [u8; 8], decipher: bool, block: [u8; 8]) -> [u8; 8]
@@ -16,35 +17,15 @@ pub fn des_block(engine: Engine, key: [u8; 8], decipher: bool, block: [u8; 8]) -
     }
 }
 
-// ECB on the plain engine.
-fn plain_ecb(key: [u8; 8], decipher: bool, text: &mut [u8])
+// ECB on one engine.
+fn ecb_under<K: RoundKeys>(key: [u8; 8], decipher: bool, text: &mut [u8])
     ensures { text.new ≡ des_text decipher key text.old }
 {
-    let keys = des::round_keys(key, decipher);
-    let mut i: usize = 0;
-    while i < text.len() / 8 {
-        let at = 8 * i;
-        let block = part8(text, at);
-        let put = des::block_under(keys, block);
-        paste(text, at, &put);
-        i += 1;
-    }
-}
-
-// ECB on the quick engine.
-fn quick_ecb(key: [u8; 8], decipher: bool, text: &mut [u8])
-    ensures { text.new ≡ des_text decipher key text.old }
-{
-    let p = quick::choices();
-    let keys = quick::round_keys(&p, key, decipher);
-    let t = quick::boxes();
-    let mut i: usize = 0;
-    while i < text.len() / 8 {
-        let at = 8 * i;
-        let block = part8(text, at);
-        let put = quick::block_under(&t, &keys, block);
-        paste(text, at, &put);
-        i += 1;
+    let keys = K::of(key, decipher);
+    // By index, as in `walk_under`.
+    for i in 0..text.len() / 8 {
+        let put = keys.block_under(part(text, 8 * i));
+        paste(text, 8 * i, &put);
     }
 }
 
@@ -53,39 +34,19 @@ pub fn des_ecb(engine: Engine, key: [u8; 8], decipher: bool, text: &mut [u8])
     ensures { text.new ≡ des_text decipher key text.old }
 {
     match engine {
-        Engine::Plain => plain_ecb(key, decipher, text),
-        Engine::Quick => quick_ecb(key, decipher, text),
+        Engine::Plain => ecb_under::<PlainKeys>(key, decipher, text),
+        Engine::Quick => ecb_under::<QuickKeys>(key, decipher, text),
     }
 }
 
-// The blocks, each under its own eight bytes of `keys`, on the plain engine.
-fn plain_each(keys: &[u8], decipher: bool, text: &mut [u8])
+// The blocks, each under its own eight bytes of `keys`, on one engine.
+fn each_under<K: RoundKeys>(keys: &[u8], decipher: bool, text: &mut [u8])
     ensures { text.new ≡ des_each decipher keys.now text.old }
 {
-    let mut i: usize = 0;
-    while i < text.len() / 8 {
-        let at = 8 * i;
-        let block = part8(text, at);
-        let put = des::des_block(part8(keys, at), decipher, block);
-        paste(text, at, &put);
-        i += 1;
-    }
-}
-
-// The same on the quick engine.
-fn quick_each(keys: &[u8], decipher: bool, text: &mut [u8])
-    ensures { text.new ≡ des_each decipher keys.now text.old }
-{
-    let p = quick::choices();
-    let t = quick::boxes();
-    let mut i: usize = 0;
-    while i < text.len() / 8 {
-        let at = 8 * i;
-        let block = part8(text, at);
-        let words = quick::round_keys(&p, part8(keys, at), decipher);
-        let put = quick::block_under(&t, &words, block);
-        paste(text, at, &put);
-        i += 1;
+    // By index, as in `walk_under`.
+    for i in 0..text.len() / 8 {
+        let put = K::of(part(keys, 8 * i), decipher).block_under(part(text, 8 * i));
+        paste(text, 8 * i, &put);
     }
 }
 
@@ -94,7 +55,7 @@ pub fn des_each(engine: Engine, keys: &[u8], decipher: bool, text: &mut [u8])
     ensures { text.new ≡ des_each decipher keys.now text.old }
 {
     match engine {
-        Engine::Plain => plain_each(keys, decipher, text),
-        Engine::Quick => quick_each(keys, decipher, text),
+        Engine::Plain => each_under::<PlainKeys>(keys, decipher, text),
+        Engine::Quick => each_under::<QuickKeys>(keys, decipher, text),
     }
 }

@@ -1,166 +1,143 @@
 // INITIALIZE TRANSACTION: may this amount be moved? Nothing in memory changes.
 ghost use Rattle.std.specs.Prelude.{◌≡◌, not, ◌&&◌, ◌||◌, ◌+◌, ◌≤◌, ltb, length};
+ghost use Rattle.apdu.specs.Refusals.{status_of};
+ghost use Rattle.session.specs.Access.{rank};
 ghost use Rattle.commands_spec.specs.InitializeTransaction.{entitled, initialize_answer, initialize_status, initialize_transaction_of};
 ghost use Rattle.commands_spec.specs.InitializeTransaction.{lacks, noted};
 ghost use Rattle.commands_spec.specs.Transaction.{not_above_zero};
 ghost use Rattle.octets.specs.Buffers.{holding};
 
-use crate::answer::{answer_mac, with_mac};
-use card::Head;
+use crate::answer::answer_mac;
+use apdu::{Refusal, ensure};
 use channel::bank_sent;
 use commands_spec::{Commits, Outcome};
-use objects::{dek_of, done, refused};
-use octets::{Buffer, append4, append16, empty, word_at};
-use session::access::access;
-use session::{CREDIT, DEBIT, Pending, Session, answered, ended, has_rmac};
-use tdes::Engine;
+use objects::{Context, done};
+use octets::{Buffer, word_at};
+use session::{Access, Pending};
 
 // A bank credit wants bank information and a PIN.
+#[tactic(auto, unfolding(commands_spec::specs::InitializeTransaction::lacks))]
 pub fn lacks(p1: u8, bank: bool, pin: bool) -> bool
     ensures { result ≡ lacks p1 bank pin }
 {
-    if p1 != 0x02 {
-        return false;
-    }
-    if !bank {
-        return true;
-    }
-    !pin
+    p1 == 0x02 && !(bank && pin)
 }
 
 // Access and PIN flag are enough for P1.
-pub fn entitled(p1: u8, held: u8, flag: bool) -> bool
-    ensures { result ≡ entitled p1 held flag }
+#[tactic(auto, unfolding(commands_spec::specs::InitializeTransaction::entitled))]
+pub fn entitled(p1: u8, held: Access, flag: bool) -> bool
+    ensures { result ≡ entitled p1 (rank held) flag }
 {
     match p1 {
-        0x00 => DEBIT <= held,
-        0x01 => CREDIT <= held,
-        _ => {
-            if !flag {
-                return false;
-            }
-            CREDIT <= held
-        }
+        0x00 => Access::Debit <= held,
+        0x01 => Access::Credit <= held,
+        _ => flag && Access::Credit <= held,
     }
 }
 
 // An amount that is 0000, or negative.
+#[tactic(auto, unfolding(commands_spec::specs::Transaction::not_above_zero))]
 fn not_above_zero(amount: u16) -> bool
     ensures { result ≡ not_above_zero amount }
 {
-    if amount == 0x0000 {
-        return true;
-    }
-    0x8000 <= amount
+    amount == 0x0000 || 0x8000 <= amount
 }
 
 // A debit above the maximum debit or the balance.
 fn overdraws(debit: bool, amount: u16, balance: u16, maxdebit: u16) -> bool
     ensures { result ≡ (debit && (ltb maxdebit amount || ltb balance amount)) }
 {
-    if !debit {
-        return false;
-    }
-    if maxdebit < amount {
-        return true;
-    }
-    balance < amount
+    debit && (maxdebit < amount || balance < amount)
 }
 
 // A credit that would pass the maximum balance.
 fn overfills(debit: bool, amount: u16, balance: u16, maxbalance: u16) -> bool
     ensures { result ≡ (not debit && ltb maxbalance (balance + amount)) }
 {
-    if debit {
-        return false;
-    }
-    (maxbalance as u32) < balance as u32 + amount as u32
+    !debit && u32::from(maxbalance) < u32::from(balance) + u32::from(amount)
 }
 
-// The first rule of 01 that refuses, or 9000.
-pub fn initialize_status(head: Head, session: Session, p1: u8, currency: u16, amount: u16) -> u16
-    ensures { result ≡ initialize_status head session p1 currency amount }
+// 01's rules in their order.
+#[tactic(auto, unfolding(commands_spec::specs::InitializeTransaction::initialize_status))]
+pub fn initialize_status(
+    context: &Context,
+    p1: u8,
+    currency: u16,
+    amount: u16,
+) -> Result<(), Refusal>
+    ensures { status_of result ≡ initialize_status context.now.head context.now.session p1 currency amount }
 {
-    let purse = head.purse;
-    let p = purse.parameters;
-    let channel = session.channel;
-    let level = channel.level;
+    let head = &context.head;
+    let session = &context.session;
+    let balance = head.purse.balance;
+    let parameters = &head.purse.parameters;
     let debit = p1 == 0x00;
-    if !p.personalized {
-        return 0x6985;
-    }
-    if lacks(p1, p.bank.defined, head.pin.defined) {
-        return 0x6A81;
-    }
-    if !entitled(p1, access(level), session.verified) {
-        return 0x6982;
-    }
-    if !has_rmac(level) {
-        return 0x6982;
-    }
-    if head.shared.maxnumber <= head.state.number {
-        return 0x9410;
-    }
-    if currency != p.currency {
-        return 0x9411;
-    }
-    if not_above_zero(amount) {
-        return 0x9412;
-    }
-    if overdraws(debit, amount, purse.balance, p.maxdebit) {
-        return 0x9413;
-    }
-    if overfills(debit, amount, purse.balance, p.maxbalance) {
-        return 0x9414;
-    }
-    0x9000
+    ensure(parameters.personalized, Refusal::ConditionsNotSatisfied)?;
+    ensure(
+        !lacks(p1, parameters.bank.defined, head.pin.defined),
+        Refusal::FeatureMissing,
+    )?;
+    ensure(
+        entitled(p1, context.access(), session.verified),
+        Refusal::SecurityNotSatisfied,
+    )?;
+    ensure(
+        session.channel.level.has_rmac(),
+        Refusal::SecurityNotSatisfied,
+    )?;
+    ensure(
+        head.state.number < head.shared.maxnumber,
+        Refusal::NumberAtMaximum,
+    )?;
+    ensure(currency == parameters.currency, Refusal::WrongCurrency)?;
+    ensure(!not_above_zero(amount), Refusal::AmountNotAboveZero)?;
+    ensure(
+        !overdraws(debit, amount, balance, parameters.maxdebit),
+        Refusal::DebitAboveLimit,
+    )?;
+    ensure(
+        !overfills(debit, amount, balance, parameters.maxbalance),
+        Refusal::CreditAboveLimit,
+    )
 }
 
 // Identifier, and bank information where P1 is 02; an R-MAC fits after it.
-fn initialize_answer(engine: Engine, head: Head, session: Session, p1: u8) -> Buffer
-    ensures { (result ≡ holding (initialize_answer head session p1)) × (length (initialize_answer head session p1) ≤ 118) }
+#[tactic(auto, unfolding(commands_spec::specs::InitializeTransaction::initialize_answer))]
+fn initialize_answer(context: &Context, p1: u8) -> Buffer
+    ensures holds { result ≡ holding (initialize_answer context.now.head context.now.session p1) }
+    ensures bound { length (initialize_answer context.now.head context.now.session p1) ≤ 118 }
 {
-    let p = head.purse.parameters;
-    let identifier = p.identifier;
-    let answer = append4(empty(), identifier);
-    if p1 != 0x02 {
-        return answer;
+    let parameters = &context.head.purse.parameters;
+    let mut answer = Buffer::of(&parameters.identifier);
+    if p1 == 0x02 {
+        answer.append(&bank_sent(context.engine, context.dek(), parameters.bank.value));
     }
-    let bank = p.bank.value;
-    let channel = session.channel;
-    let level = channel.level;
-    append16(answer, bank_sent(engine, dek_of(level, head), bank))
+    answer
 }
 
 // The amount is noted, a debit's or a credit's.
+#[tactic(auto, unfolding(commands_spec::specs::InitializeTransaction::noted))]
 fn noted(p1: u8, amount: u16) -> Pending
     ensures { result ≡ noted p1 amount }
 {
-    if p1 == 0x00 {
-        return Pending::Debiting(amount);
+    match p1 {
+        0x00 => Pending::Debiting(amount),
+        _ => Pending::Crediting(amount),
     }
-    Pending::Crediting(amount)
 }
 
 // Where the amount may be moved it is noted, and the answer carries an R-MAC.
-pub fn initialize_transaction(
-    engine: Engine,
-    head: Head,
-    session: Session,
-    p1: u8,
-    body: [u8; 4],
-) -> Outcome
-    ensures { result ≡ initialize_transaction_of head session p1 body }
+#[tactic(auto, unfolding(commands_spec::specs::InitializeTransaction::initialize_transaction_of, commands_spec::specs::Outcomes::decided))]
+pub fn initialize_transaction(context: &Context, p1: u8, body: [u8; 4]) -> Outcome
+    ensures { result ≡ initialize_transaction_of context.now.head context.now.session p1 body }
 {
-    let currency = word_at(&body, 0);
     let amount = word_at(&body, 2);
-    let w = initialize_status(head, session, p1, currency, amount);
-    if w != 0x9000 {
-        return refused(head, ended(session), w);
+    if let Err(refusal) = initialize_status(context, p1, word_at(&body, 0), amount) {
+        return context.refused(refusal);
     }
-    let answer = initialize_answer(engine, head, session, p1);
-    let channel = session.channel;
-    let mac = answer_mac(engine, channel, answer);
-    let next = answered(noted(p1, amount), mac, session);
-    done(Commits::Unchanged, head, next, with_mac(answer, mac))
+    let mut answer = initialize_answer(context, p1);
+    let mac = answer_mac(context, &answer);
+    answer.append(&mac);
+    let session = context.session.answered(noted(p1, amount), mac);
+    done(Commits::Unchanged, context.head, session, answer)
 }

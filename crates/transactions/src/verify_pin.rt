@@ -1,97 +1,65 @@
 // VERIFY PIN. The try is spent before the PIN is judged.
 ghost use Rattle.std.specs.Prelude.{◌≡◌};
+ghost use Rattle.apdu.specs.Refusals.{status_of};
+ghost use Rattle.session.specs.Access.{access};
 ghost use Rattle.commands_spec.specs.VerifyPin.{judged, verify_pin_of, verify_status};
-ghost use Rattle.commands_spec.specs.Outcomes.{tried};
-ghost use Rattle.octets.specs.Bytes.{same};
-ghost use Rattle.channel.specs.Channel.{received};
 
-use card::log::void;
-use card::updates::{with_state, with_tries};
-use card::{Head, State};
-use channel::received8;
+use apdu::{Refusal, ensure};
+use card::State;
+use channel::received;
 use commands_spec::{Commits, Outcome};
-use objects::{done, refused};
-use octets::{append_word, empty, same};
-use session::access::access;
-use session::{CREDIT, Session, ended, flagged};
-use tdes::Engine;
+use objects::{Context, done, refused};
+use octets::Buffer;
+use session::Access;
 
-// VERIFY PIN, before the PIN is judged.
-pub fn verify_status(personalized: bool, defined: bool, held: u8, tries: u8) -> u16
-    ensures { result ≡ verify_status personalized defined held tries }
+// 01's rules before the PIN is judged.
+#[tactic(auto, unfolding(commands_spec::specs::VerifyPin::verify_status))]
+pub fn verify_status(context: &Context) -> Result<(), Refusal>
+    ensures { status_of result ≡ verify_status context.now.head.purse.parameters.personalized context.now.head.pin.defined
+        (access context.now.session.channel.level) context.now.head.state.tries }
 {
-    if !personalized {
-        return 0x6985;
-    }
-    if !defined {
-        return 0x6A81;
-    }
-    if held < CREDIT {
-        return 0x6982;
-    }
-    if tries == 0 {
-        return 0x6983;
-    }
-    0x9000
-}
-
-// One try fewer.
-fn tried(state: State) -> State
-    ensures { result ≡ tried state }
-{
-    let n = state.tries;
-    if n == 0 {
-        return state;
-    }
-    let mut s = state;
-    s.tries = n - 1;
-    s
-}
-
-// Whether what was sent under the session key is the card's PIN.
-fn is_right(engine: Engine, key: [u8; 16], body: [u8; 8], block: [u8; 8]) -> bool
-    ensures { result ≡ same (received key body) block }
-{
-    let sent = received8(engine, key, body);
-    same(&sent, &block)
+    let head = &context.head;
+    ensure(
+        head.purse.parameters.personalized,
+        Refusal::ConditionsNotSatisfied,
+    )?;
+    ensure(head.pin.defined, Refusal::FeatureMissing)?;
+    ensure(
+        Access::Credit <= context.access(),
+        Refusal::SecurityNotSatisfied,
+    )?;
+    ensure(head.state.tries != 0, Refusal::NoTriesLeft)
 }
 
 // A try is spent; then, where the PIN is right, tries are full.
-fn judged(right: bool, head: Head, session: Session) -> Outcome
-    ensures { result ≡ judged right head session }
+#[tactic(auto, using(octets::proofs::Holding::of_piece), unfolding(commands_spec::specs::VerifyPin::judged, commands_spec::specs::Outcomes::tried, commands_spec::specs::Outcomes::done, commands_spec::specs::Outcomes::refused))]
+fn judged(context: &Context, right: bool) -> Outcome
+    ensures { result ≡ judged right context.now.head context.now.session }
 {
-    let state = head.state;
-    let spent = tried(state);
-    let left = flagged(right, session);
+    let head = &context.head;
+    let spent = State {
+        tries: head.state.tries.saturating_sub(1),
+        ..head.state
+    };
+    let session = context.session.flagged(right);
     if right {
-        let full = with_tries(head.fixed.maxtries, head);
-        return done(Commits::HotTwice(spent), full, left, empty());
+        let full = head.with_tries(head.fixed.maxtries);
+        return done(Commits::HotTwice(spent), full, session, Buffer::new());
     }
-    let logged = void();
-    let reply = append_word(empty(), 0x6300);
     Outcome {
-        status: 0x6300,
         commits: Commits::Hot,
-        head: with_state(spent, head),
-        logged: logged,
-        reply: reply,
-        session: left,
+        ..refused(head.with_state(spent), session, Refusal::NotAuthenticated)
     }
 }
 
-// The PIN that was sent is judged where the card has one and a try is left.
-pub fn verify_pin(engine: Engine, head: Head, session: Session, body: [u8; 8]) -> Outcome
-    ensures { result ≡ verify_pin_of head session body }
+// The PIN that was sent under the session key is judged where the card has one and a try is left.
+#[tactic(auto, unfolding(commands_spec::specs::VerifyPin::verify_pin_of, commands_spec::specs::Outcomes::decided))]
+pub fn verify_pin(context: &Context, body: [u8; 8]) -> Outcome
+    ensures { result ≡ verify_pin_of context.now.head context.now.session body }
 {
-    let pin = head.pin;
-    let block = pin.block;
-    let channel = session.channel;
-    let key = channel.enc;
-    let level = channel.level;
-    let personalized = head.purse.parameters.personalized;
-    let w = verify_status(personalized, pin.defined, access(level), head.state.tries);
-    if w != 0x9000 {
-        return refused(head, ended(session), w);
+    if let Err(refusal) = verify_status(context) {
+        return context.refused(refusal);
     }
-    judged(is_right(engine, key, body, block), head, session)
+    let sent = received(context.engine, context.session.channel.enc, body);
+    judged(context, sent == context.head.pin.block)
 }

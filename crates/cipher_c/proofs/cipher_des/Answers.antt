@@ -4,16 +4,17 @@ use Rattle.cipher_c.proofs.Accepted.{des-called}
 use borrow.Author.Rules.{rules as by_rules}
 use Rattle.cipher_c.proofs.cipher_des.Goals as goal
 
-pub returns-then-engine-gt1 : goal.returns-then-engine-gt1
+pub returns-in_default : goal.returns-in_default
 unfolding des_call
-returns-then-engine-gt1 c = search by_rules depth 24
+returns-in_default c = search by_rules depth 24
 
-pub returns-then-key-ne8 : goal.returns-then-key-ne8
+pub returns-in_default-2 : goal.returns-in_default-2
 unfolding des_call
-returns-then-key-ne8 c = search by_rules depth 24
+returns-in_default-2 c = search by_rules depth 24
 
 pub returns : goal.returns
 returns c =
-    let k = c.part8-k in
     let a = c.args in
-    des-called a.engine a.key.now k.result a.text.now _ (search by_rules) (search by_rules) k.ensures c.des_ecb.ensures
+    let found = c.in-Some-Ok in
+    let key = found.ensures'.1 in
+    des-called a.engine a.key.now found.key a.text.now _ found.ensures key.long key.same c.des_ecb.ensures

@@ -5,9 +5,9 @@ use Rattle.cipher_c.proofs.Accepted.{each-called}
 use borrow.Author.Rules.{rules as by_rules}
 use Rattle.cipher_c.proofs.cipher_des_each.Goals as goal
 
-pub returns-then-engine-gt1 : goal.returns-then-engine-gt1
+pub returns-in_default : goal.returns-in_default
 unfolding des_each_call blocks
-returns-then-engine-gt1 c = search by_rules depth 24
+returns-in_default c = search by_rules depth 24
 
 pub returns-then-keys-text : goal.returns-then-keys-text
 unfolding des_each_call blocks
@@ -16,4 +16,4 @@ returns-then-keys-text c = search by_rules depth 24
 pub returns : goal.returns
 returns c =
     let a = c.args in
-    each-called a.engine a.keys.now a.text.now _ (search by_rules) (search by_rules) c.des_each.ensures
+    each-called a.engine a.keys.now a.text.now _ c.in-Some.ensures (search by_rules) c.des_each.ensures

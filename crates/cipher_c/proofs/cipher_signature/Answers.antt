@@ -4,17 +4,17 @@ use Rattle.cipher_c.proofs.Accepted.{signature-called}
 use borrow.Author.Rules.{rules as by_rules}
 use Rattle.cipher_c.proofs.cipher_signature.Goals as goal
 
-pub returns-then-engine-gt1 : goal.returns-then-engine-gt1
+pub returns-in_default : goal.returns-in_default
 unfolding signature_call
-returns-then-engine-gt1 c = search by_rules depth 24
+returns-in_default c = search by_rules depth 24
 
-pub returns-then-key-ne16 : goal.returns-then-key-ne16
+pub returns-in_default-2 : goal.returns-in_default-2
 unfolding signature_call
-returns-then-key-ne16 c = search by_rules depth 24
+returns-in_default-2 c = search by_rules depth 24
 
-pub returns-then-start-ne8 : goal.returns-then-start-ne8
+pub returns-in_default-3 : goal.returns-in_default-3
 unfolding signature_call
-returns-then-start-ne8 c = search by_rules depth 24
+returns-in_default-3 c = search by_rules depth 24
 
 pub returns-then-out-lt8 : goal.returns-then-out-lt8
 unfolding signature_call
@@ -22,9 +22,10 @@ returns-then-out-lt8 c = search by_rules depth 24
 
 pub returns : goal.returns
 returns c =
-    let k = c.part16-k in
-    let s = c.part8-s in
-    let mac = c.signature-mac in
     let a = c.args in
-    signature-called a.engine a.key.now a.start.now k.result s.result (search by_rules) (search by_rules) (search by_rules) k.ensures s.ensures
+    let found = c.in-Some-Ok-Ok in
+    let key = found.ensures'.1 in
+    let start = found.ensures''.1 in
+    let mac = c.signature-mac in
+    signature-called a.engine a.key.now a.start.now found.key found.start found.ensures key.long start.long key.same start.same
     a.text.now a.out.now mac.result _ (search by_rules) mac.ensures c.paste.ensures

@@ -1,15 +1,15 @@
--- `round_keys` turns the keys of the schedule round where it is asked to. Assumes nothing.
-use mathlib.Core.Path.{ap, ◌∙◌}
+-- `round_keys` puts the keys in the order of use. Assumes nothing.
+use Rattle.std.proofs.Common.{ap, ◌∙◌}
 use mathlib.Core.List.{reverse}
-use Rattle.des_spec.specs.Des.{schedule, round_keys, order}
+use Rattle.des_spec.specs.Bits.{bits_of}
+use Rattle.des_spec.specs.Des.{order, schedule, round_keys}
 use Rattle.des.proofs.round_keys.Goals as goal
 
 pub returns-then-decipher : goal.returns-then-decipher
-unfolding round_keys order
+unfolding round_keys order bits_of
 returns-then-decipher c =
-    let keys = c.schedule-keys.ensures ∙ ap schedule c.bits_of-bits.ensures in
-    rw c.if-decipher.true (c.reversed.ensures ∙ ap reverse keys)
+    rw c.if-decipher.true (c.reverse.ensures.after ∙ ap reverse (c.schedule-keys.ensures ∙ ap schedule c.binaries.ensures))
 
-pub returns : goal.returns
-unfolding round_keys order
-returns c = rw c.if-decipher.false (c.schedule-keys.ensures ∙ ap schedule c.bits_of-bits.ensures)
+pub returns-else-decipher : goal.returns-else-decipher
+unfolding round_keys order bits_of
+returns-else-decipher c = rw c.if-decipher.false (c.schedule-keys.ensures ∙ ap schedule c.binaries.ensures)

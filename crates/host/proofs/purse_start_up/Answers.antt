@@ -1,25 +1,16 @@
--- `purse_start_up`: its two refusals by search; past them the purse's run, whose number has room (`run_small`). Assumes nothing.
+-- `purse_start_up`: past its two refusals the purse's run, whose number has room (`run_small`). Assumes nothing.
 use native.Mathlib.Omega.{arith}
 use Rattle.purse_spec.specs.History.{start, OfBytes, run}
-use Rattle.host.specs.Host.{number, length_tested, start_call}
+use Rattle.host.specs.Host.{start_call}
 use Rattle.host.proofs.Bounds.{run_small, alone, alone_typed}
 use Rattle.host.proofs.Outcomes.{gives_small, tested}
-use borrow.Author.Rules.{rules as by_rules}
 use Rattle.host.proofs.purse_start_up.Goals as goal
-
-pub returns-then-memory-ne-MEMORY_SIZE : goal.returns-then-memory-ne-MEMORY_SIZE
-unfolding start_call length_tested number
-returns-then-memory-ne-MEMORY_SIZE c = search by_rules depth 24
-
-pub returns-then-session-ne-SESSION_SIZE : goal.returns-then-session-ne-SESSION_SIZE
-unfolding start_call length_tested number
-returns-then-session-ne-SESSION_SIZE c = search by_rules depth 24
 
 pub result-requires : goal.result-requires
 unfolding run OfBytes
 result-requires c =
-    let s = gives_small _ _ _ _ c.start_up-called.ensures
-    (run_small (start c.args.limit) (alone c.args.memory.now) (alone_typed c.args.memory.now (λ j. omega (arith, c.slice_known-1.given j))) tt) in
+    let m = c.args.memory.now in
+    let s = gives_small _ _ _ _ c.start_up-called.ensures (run_small (start c.args.limit) (alone m) (alone_typed m (λ j. omega (arith, c.slice_known-1.given j))) tt) in
     (c.if-session-ne-SESSION_SIZE.false, s.0, s.1)
 
 pub returns : goal.returns

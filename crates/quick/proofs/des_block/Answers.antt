@@ -8,4 +8,4 @@ use Rattle.quick.proofs.des_block.Goals as goal
 pub returns : goal.returns
 unfolding des
 returns c =
-    c.block_under.ensures ∙ ap (λ (k : List (List ℕ)). block_under k c.args.block) c.round_keys-ks.ensures.1
+    c.block_under.ensures ∙ ap (λ (k : List (List ℕ)). block_under k c.args.block) c.round_keys.ensures

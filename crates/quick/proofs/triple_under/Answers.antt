@@ -5,6 +5,6 @@ use Rattle.quick.proofs.triple_under.Goals as goal
 pub returns : goal.returns
 returns c =
     let a = c.args in
-    three a.block c.store.result a.outer.now a.inner.now c.load.result c.initial-x.result
-    c.rounds-a.result c.rounds-b.result c.rounds-c.result c.inverse.result
-    c.load.ensures c.initial-x.ensures c.rounds-a.ensures c.rounds-b.ensures c.rounds-c.ensures c.inverse.ensures c.store.ensures
+    three a.block c.store.result a.outer.now a.inner.now c.load.result c.initial.result
+    c.rounds-first.result c.rounds-second.result c.rounds-third.result c.inverse.result
+    c.load.ensures c.initial.ensures c.rounds-first.ensures c.rounds-second.ensures c.rounds-third.ensures c.inverse.ensures c.store.ensures

@@ -1,12 +1,10 @@
--- `stored_all`: what the whole data comes to, the turns that are left come to.
-use Prim.Native.Nat.{ℕ, ◌+◌, ◌-◌, ◌≤◌}
-use mathlib.Core.Path.{◌≡◌}
-use lib.ListN.{length, drop}
-use Rattle.commands_spec.specs.StoreData.{stored_all}
+-- `stored_all`: what the whole data comes to, what is left comes to.
+use Rattle.std.proofs.Common.{◌≡◌, length}
+use Rattle.commands_spec.specs.StoreData.{stored_all, unread}
 use Rattle.administration.proofs.store_data.stored_all.Given as goal
 
-abbrev pub invariant-loop-at : goal.invariant-loop-at
-invariant-loop-at l = (l.at ≤ length l.s) × (l.n ≡ length l.s) × ((k : ℕ) × (length l.s ≤ l.at + k) × (stored_all (length l.s) l.dek l.s l.initial.st ≡ stored_all k l.dek (drop l.at l.s) l.st))
+abbrev pub invariant-loop-rest : goal.invariant-loop-rest
+invariant-loop-rest l = stored_all (length l.s) l.dek l.s (unread l.fn.head) ≡ stored_all (length l.rest) l.dek l.rest l.st
 
-abbrev pub decreases-loop-at : goal.decreases-loop-at
-decreases-loop-at l = length l.s - l.at
+abbrev pub decreases-loop-rest : goal.decreases-loop-rest
+decreases-loop-rest l = length l.rest

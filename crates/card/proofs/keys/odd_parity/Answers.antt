@@ -1,20 +1,15 @@
--- `odd_parity`: the bytes before i have an odd number of ones. Assumes nothing.
-use mathlib.Core.Path.{sym}
-use native.Mathlib.Omega.{arith}
-use borrow.Author.Count.{below_none, below_more}
-use Rattle.card.proofs.Parity.{parity_holds, parity_fails}
+-- `odd_parity`: a test of all bytes.
+use Prim.Native.Nat.{◌%◌}
+use lib.Count.{ones}
+use lib.Dec.{eqb}
+use borrow.Author.Tests.{tests}
+use Rattle.std.proofs.Common.{rules}
+use Rattle.std.proofs.lemmas.Iterator.{YieldsList-from_slice}
+use Rattle.std.proofs.lemmas.Iterator.Search.{all_from_yields_List}
+use Rattle.card.proofs.Parity.{parity_all}
 use Rattle.card.proofs.keys.odd_parity.Goals as goal
 
-pub loop-i-init : goal.loop-i-init
-loop-i-init c = (omega arith, below_none _)
-
-pub returns-then-s-i-ne1 : goal.returns-then-s-i-ne1
-returns-then-s-i-ne1 c =
-    let l = c.loop-i in
-    sym (parity_fails _ l.i (omega arith) c.if-s-i-ne1.true)
-
-pub loop-i-preserved : goal.loop-i-preserved
-loop-i-preserved c = (omega arith, below_more _ _ c.loop-i.invariant.1 c.if-s-i-ne1.false)
-
 pub returns : goal.returns
-returns c = sym (parity_holds _ (λ k h. c.loop-i.invariant.1 k (omega arith)))
+returns c =
+    rw parity_all
+    (all_from_yields_List (λ b. eqb (ones b % 2) 1) _ _ c.all.result c.all.ensures.ran (YieldsList-from_slice c.args.s.now cc) (λ x b q k. search (rules, tests)))

@@ -4,10 +4,9 @@ use native.Mathlib.Omega.{arith}
 use Rattle.card.proofs.Parity.{accepts, rejects}
 use Rattle.card.proofs.keys.take_keys.Goals as goal
 
-pub returns-then-odd_keys : goal.returns-then-odd_keys
-returns-then-odd_keys c =
-    accepts _ _ c.keys_in-keys.ensures (λ j. omega (arith, c.shared_slice_known-1.given j)) (sym c.odd_keys.ensures ∙ c.if-odd_keys.true)
+pub returns-then-are_odd : goal.returns-then-are_odd
+returns-then-are_odd c =
+    accepts _ _ c.from_bytes-keys.ensures (λ j. omega (arith, c.type_inv.s j)) (sym c.are_odd.ensures ∙ c.if-are_odd.true)
 
-pub returns : goal.returns
-returns c =
-    rejects _ _ c.keys_in-keys.ensures _ c.no_keys-none.ensures (sym c.odd_keys.ensures ∙ c.if-odd_keys.false)
+pub returns-else-are_odd : goal.returns-else-are_odd
+returns-else-are_odd c = rejects _ _ c.from_bytes-keys.ensures (sym c.are_odd.ensures ∙ c.if-are_odd.false)

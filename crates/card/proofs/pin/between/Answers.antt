@@ -1,26 +1,14 @@
--- The invariant: what is left of the list decides.
-use mathlib.Core.Path.{refl, sym, ◌∙◌}
-use native.Mathlib.Omega.{arith}
-use Rattle.card.proofs.Turns.{between_below, between-above, between_next, between_end}
+-- `between`: a test of all numbers.
+use mathlib.Core.Bool.{◌&&◌}
+use lib.Dec.{leb}
+use borrow.Author.Tests.{tests}
+use Rattle.std.proofs.Common.{rules}
+use Rattle.std.proofs.lemmas.Iterator.{YieldsList-from_slice}
+use Rattle.std.proofs.lemmas.Iterator.Search.{all_from_yields_List}
+use Rattle.card.proofs.Turns.{between_all}
 use Rattle.card.proofs.pin.between.Goals as goal
 
-pub loop-i-init : goal.loop-i-init
-loop-i-init c = (omega arith, refl)
-
-pub returns-then-l-i : goal.returns-then-l-i
-returns-then-l-i c =
-    let l = c.loop-i in
-    sym (l.invariant.1 ∙ between_below _ _ _ l.i (omega arith) c.if-l-i.true)
-
-pub returns-then-high-l : goal.returns-then-high-l
-returns-then-high-l c =
-    let l = c.loop-i in
-    sym (l.invariant.1 ∙ between-above _ _ _ l.i (omega arith) c.if-high-l.true)
-
-pub loop-i-preserved : goal.loop-i-preserved
-loop-i-preserved c =
-    let l = c.loop-i in
-    (omega arith, l.invariant.1 ∙ between_next _ _ _ l.i (omega arith) c.if-l-i.false c.if-high-l.false)
-
 pub returns : goal.returns
-returns c = sym (c.loop-i.invariant.1 ∙ between_end _ _ _ c.loop-i.i (omega arith))
+returns c =
+    rw between_all
+    (all_from_yields_List (λ d. leb c.args.low d && leb d c.args.high) _ _ c.all.result c.all.ensures.ran (YieldsList-from_slice c.args.l.now cc) (λ x b q k. search (rules, tests)))

@@ -1,27 +1,29 @@
--- `authorized`: by its two tests, the channel before any C-MAC is made.
-use Rattle.commands.proofs.Signatures.{unsigned, wrongly_signed, rightly_signed}
+-- `authorized`: by its two tests, the channel before any C-MAC is made. Assumes nothing.
+use Rattle.commands.proofs.Signatures.{wrongly_signed, rightly_signed}
 use Rattle.commands.proofs.Bodies.{signed-least, mac-sent}
 use native.Mathlib.Omega.{arith}
-use mathlib.Core.Path.{refl, sym, ◌∙◌}
+use mathlib.Core.Path.{sym, ◌∙◌}
+use Rattle.std.proofs.lemmas.Bool.{not-true, not-false}
 use Rattle.commands.proofs.signed.authorized.Goals as goal
 
-pub returns-then-not-is_open : goal.returns-then-not-is_open
-returns-then-not-is_open c = unsigned _ _ _ _ _ _ (sym c.is_open.ensures ∙ c.if-not-is_open.true) (rw (← c.closed.ensures) c.refused.ensures)
+pub overflow_sub-request : goal.overflow_sub-request
+overflow_sub-request c = omega (arith, signed-least _ _ c.requires)
 
-pub overflow_sub-n : goal.overflow_sub-n
-overflow_sub-n c = omega (arith, signed-least _ _ c.requires.1)
-
-pub returns-then-not-same : goal.returns-then-not-same
-returns-then-not-same c =
-    let sent = mac-sent _ _ c.requires.0 (signed-least _ _ c.requires.1) in
-    wrongly_signed _ _ _ _ _ _ (rw (← sent, ← c.part8-sent.ensures, ← c.cmac-mac.ensures, ← c.same.ensures) (c.if-not-same.true)) (rw (← c.closed-then-not-same.ensures) c.refused-then-not-same.ensures)
-
-pub signed-requires : goal.signed-requires
-signed-requires c = (c.requires.0, c.requires.1, refl)
+pub returns-then-ne : goal.returns-then-ne
+returns-then-ne c =
+    let q = c.args.request.now in
+    let sent = mac-sent _ _ q.parsed (signed-least _ _ c.requires) in
+    let p = rw c.from-n.ensures at c.part.ensures in
+    let d = rw c.from-n.ensures at c.cmac-mac.ensures in
+    wrongly_signed _ _ _ _ _ _ (rw (← sent, ← p, ← d) (not-true _ (sym c.ne.ensures ∙ c.if-ne.true)))
+    (rw (← c.closed-then-ne.ensures) c.refused-then-ne.ensures)
 
 pub returns : goal.returns
 returns c =
-    let sent = mac-sent _ _ c.requires.0 (signed-least _ _ c.requires.1) in
+    let q = c.args.request.now in
+    let sent = mac-sent _ _ q.parsed (signed-least _ _ c.requires) in
+    let p = rw c.from-n.ensures at c.part.ensures in
+    let d = rw c.from-n.ensures at c.cmac-mac.ensures in
     rightly_signed _ _ _ _ _ _ (sym c.is_open.ensures ∙ c.if-not-is_open.false)
-    (rw (← sent, ← c.part8-sent.ensures, ← c.cmac-mac.ensures, ← c.same.ensures) (c.if-not-same.false))
-    (rw (← c.cmac-mac.ensures, ← c.chained.ensures) c.signed.ensures)
+    (rw (← sent, ← p, ← d) (not-false _ (sym c.ne.ensures ∙ c.if-ne.false)))
+    (rw (← d, ← c.chained.ensures) c.signed.ensures)

@@ -1,30 +1,22 @@
--- `number` holds after i turns the number that the first i bits say. Assumes nothing.
-use Prim.Native.Nat.{◌-◌}
-use mathlib.Core.Path.{refl, ap, ◌∙◌}
-use native.Mathlib.Omega.{arith}
-use borrow.Author.Rules.{rules}
-use lib.Seq.{take_all}
+-- `number` holds after i bits the number that they say. Assumes nothing.
+use Rattle.std.proofs.Common.{refl, arith}
 use Rattle.des_spec.specs.Bits.{number}
 use Rattle.des.proofs.Numbers.{number-next, number-room}
 use Rattle.des.proofs.bits.number.Goals as goal
 
-pub loop-i-init : goal.loop-i-init
+pub loop-b-init : goal.loop-b-init
 unfolding number
-loop-i-init c = (refl, search rules)
+loop-b-init c = refl
 
 pub overflow_mul-value : goal.overflow_mul-value
 overflow_mul-value c =
-    omega (arith, number-room c.args.bits.now c.loop-i.i c.requires.0 (omega arith) (omega arith))
+    omega (arith, number-room c.args.bits.now c.loop-b.b-index c.requires.0 (omega arith) (omega arith))
 
 pub overflow_add-value : goal.overflow_add-value
 overflow_add-value c =
     let b = c.requires.0 in
-    omega (arith, number-room c.args.bits.now c.loop-i.i b (omega arith) (omega arith), b.at c.loop-i.i)
+    let i = c.loop-b.b-index in
+    omega (arith, number-room c.args.bits.now i b (omega arith) (omega arith), b.at i)
 
-pub loop-i-preserved : goal.loop-i-preserved
-loop-i-preserved c =
-    (omega (arith, number-next c.args.bits.now c.loop-i.i (omega arith)), search rules)
-
-pub returns : goal.returns
-returns c =
-    c.loop-i.invariant.0 ∙ ap number (take_all c.loop-i.i c.args.bits.now (omega arith))
+pub loop-b-preserved : goal.loop-b-preserved
+loop-b-preserved c = omega (arith, number-next c.args.bits.now c.loop-b.b-index (omega arith))

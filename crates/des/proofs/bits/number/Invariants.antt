@@ -1,12 +1,7 @@
--- `number` holds after i turns the number that the first i bits say. Assumes nothing.
-use Prim.Native.Nat.{◌-◌, ◌≤◌}
-use mathlib.Core.Path.{◌≡◌}
-use lib.ListN.{length, take}
+-- `number` holds after i bits the number that they say. Assumes nothing.
+use Rattle.std.proofs.Common.{◌≡◌, take}
 use Rattle.des_spec.specs.Bits.{number}
 use Rattle.des.proofs.bits.number.Given as goal
 
-abbrev pub invariant-loop-i : goal.invariant-loop-i
-invariant-loop-i l = (l.value ≡ number (take l.i l.bits)) × (l.i ≤ length l.bits)
-
-abbrev pub decreases-loop-i : goal.decreases-loop-i
-decreases-loop-i l = length l.bits - l.i
+abbrev pub invariant-loop-b : goal.invariant-loop-b
+invariant-loop-b l = l.value ≡ number (take l.b-index l.bits)

@@ -1,7 +1,5 @@
 -- `selects` fills its array entry by entry. Assumes nothing.
-use Prim.Native.Nat.{◌-◌}
-use mathlib.Core.Path.{sym, ◌∙◌}
-use native.Mathlib.Omega.{arith}
+use Rattle.std.proofs.Common.{arith, sym, ◌∙◌}
 use Rattle.des_spec.specs.Tables.{S}
 use Rattle.octets.proofs.Filling.{fill_start, fill_step, fill_done}
 use Rattle.des.proofs.Places.{length-S, length_entries, get_or-selects}

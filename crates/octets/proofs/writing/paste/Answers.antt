@@ -1,36 +1,26 @@
--- `paste`: the first i bytes of `s` stand in the area from `at` on, and the rest is as it was. Assumes nothing.
+-- `paste`: what fits replaces the bytes from `at` on. Assumes nothing.
+use Prim.Native.Nat.{◌+◌, ◌-◌}
 use mathlib.Core.Path.{◌≡◌, refl, sym, ◌∙◌}
-use native.Mathlib.Numerals.{add-one}
 use native.Mathlib.Omega.{arith}
-use lib.ListN.{length, length-set}
-use lib.Seq.{paste-zero, paste-suc, take-length}
+use lib.ListN.{length}
+use lib.Seq.{take-length}
+use Rattle.std.proofs.lemmas.Slice.{put_mid-paste}
 use Rattle.octets.proofs.Pasting.{paste_fits, paste_past}
 use Rattle.octets.proofs.writing.paste.Goals as goal
+use Rattle.octets.proofs.writing.paste.Goals.{else-at-area-via-then-at-area+else-s-area, else-at-area-via-else-at-area}
 
-pub returns-then-area-at : goal.returns-then-area-at
-returns-then-area-at c = let a = c.args in sym (paste_past a.area.now a.at a.s.now (omega arith))
-
-pub returns-then-area-at-2 : goal.returns-then-area-at-2
-returns-then-area-at-2 c = let a = c.args in sym (paste_past a.area.now a.at a.s.now (omega arith))
-
-pub loop-i-init : goal.loop-i-init
-loop-i-init c =
+pub returns-then-s-area : goal.returns-then-s-area
+returns-then-s-area c =
     let a = c.args in
-    (omega arith, omega arith, refl, paste-zero a.area.now a.at a.s.now)
+    let n = length a.s.now in
+    let k : n ≡ a.at + n - a.at = omega arith in
+    put_mid-paste a.at (a.at + n - a.at) a.area.now c.copy_from_slice.new.self a.s.now n c.copy_from_slice.ensures.after k refl
+    ∙ rw take-length (sym (paste_fits a.area.now a.at a.s.now (omega arith)))
 
-pub loop-i-preserved : goal.loop-i-preserved
-loop-i-preserved c =
+pub returns-else-at-area : goal.returns-else-at-area
+returns-else-at-area c =
     let a = c.args in
-    let l = c.loop-i in (
-      omega arith,
-      l.invariant.1,
-      simp length-set l.invariant.2,
-      rw (l.invariant.3, add-one) (paste-suc a.area.now a.at a.s.now l.i 0 (omega arith) (omega arith)),
-    )
-
-pub returns : goal.returns
-returns c =
-    let a = c.args in
-    let l = c.loop-i in
-    let e : l.i ≡ length a.s.now = omega arith in
-    l.invariant.3 ∙ rw (e, take-length) (sym (paste_fits a.area.now a.at a.s.now l.invariant.1))
+    elim c.else-at-area.branch [
+      | else-at-area-via-then-at-area+else-s-area w ↦ sym (paste_past a.area.now a.at a.s.now (omega arith))
+      | else-at-area-via-else-at-area w ↦ sym (paste_past a.area.now a.at a.s.now (omega arith))
+    ]

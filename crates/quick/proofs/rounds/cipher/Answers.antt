@@ -56,6 +56,6 @@ returns c =
     (c.join-6.ensures ∙ ap₂ bit_xor c.join-4.ensures c.join-5.ensures))
     ∙ in_order c.word-w0.result c.word-w1.result c.word-w2.result c.word-w3.result
     c.word-w4.result c.word-w5.result c.word-w6.result c.word-w7.result
-    ∙ cipher_law c.args.r c.args.k c.ranges.r.fits
+    ∙ cipher_law c.args.r c.args.k c.rotate_right.result c.rotate_left.result c.ranges.r.fits c.rotate_right.ensures c.rotate_left.ensures
     c.word-w0.ensures c.word-w1.ensures c.word-w2.ensures c.word-w3.ensures
     c.word-w4.ensures c.word-w5.ensures c.word-w6.ensures c.word-w7.ensures

@@ -1,10 +1,6 @@
 -- `choice2` adds the word of a nibble a turn. Assumes nothing.
-use Prim.Native.Nat.{◌-◌}
 use Rattle.quick.proofs.Nibbles.{Summed}
 use Rattle.quick.proofs.schedule.choice2.Given as goal
 
 abbrev pub invariant-loop-j : goal.invariant-loop-j
-invariant-loop-j l = Summed l.x l.y l.sum l.j
-
-abbrev pub decreases-loop-j : goal.decreases-loop-j
-decreases-loop-j l = 14 - l.j
+invariant-loop-j l = Summed l.x l.rest l.sum l.j

@@ -8,52 +8,52 @@ use Rattle.quick.proofs.Keys.{scheduled, halves, ready}
 use Rattle.quick.proofs.schedule.key_words.Goals as goal
 
 pub key_word-requires : goal.key_word-requires
-key_word-requires c = ready c.requires c.ranges.z.fits (lit< tt)
+key_word-requires c = ready c.ranges.z.fits (lit< tt)
 
 pub key_word-requires-2 : goal.key_word-requires-2
-key_word-requires-2 c = ready c.requires c.ranges.z.fits (lit< tt)
+key_word-requires-2 c = ready c.ranges.z.fits (lit< tt)
 
 pub key_word-requires-3 : goal.key_word-requires-3
-key_word-requires-3 c = ready c.requires c.ranges.z.fits (lit< tt)
+key_word-requires-3 c = ready c.ranges.z.fits (lit< tt)
 
 pub key_word-requires-4 : goal.key_word-requires-4
-key_word-requires-4 c = ready c.requires c.ranges.z.fits (lit< tt)
+key_word-requires-4 c = ready c.ranges.z.fits (lit< tt)
 
 pub key_word-requires-5 : goal.key_word-requires-5
-key_word-requires-5 c = ready c.requires c.ranges.z.fits (lit< tt)
+key_word-requires-5 c = ready c.ranges.z.fits (lit< tt)
 
 pub key_word-requires-6 : goal.key_word-requires-6
-key_word-requires-6 c = ready c.requires c.ranges.z.fits (lit< tt)
+key_word-requires-6 c = ready c.ranges.z.fits (lit< tt)
 
 pub key_word-requires-7 : goal.key_word-requires-7
-key_word-requires-7 c = ready c.requires c.ranges.z.fits (lit< tt)
+key_word-requires-7 c = ready c.ranges.z.fits (lit< tt)
 
 pub key_word-requires-8 : goal.key_word-requires-8
-key_word-requires-8 c = ready c.requires c.ranges.z.fits (lit< tt)
+key_word-requires-8 c = ready c.ranges.z.fits (lit< tt)
 
 pub key_word-requires-9 : goal.key_word-requires-9
-key_word-requires-9 c = ready c.requires c.ranges.z.fits (lit< tt)
+key_word-requires-9 c = ready c.ranges.z.fits (lit< tt)
 
 pub key_word-requires-10 : goal.key_word-requires-10
-key_word-requires-10 c = ready c.requires c.ranges.z.fits (lit< tt)
+key_word-requires-10 c = ready c.ranges.z.fits (lit< tt)
 
 pub key_word-requires-11 : goal.key_word-requires-11
-key_word-requires-11 c = ready c.requires c.ranges.z.fits (lit< tt)
+key_word-requires-11 c = ready c.ranges.z.fits (lit< tt)
 
 pub key_word-requires-12 : goal.key_word-requires-12
-key_word-requires-12 c = ready c.requires c.ranges.z.fits (lit< tt)
+key_word-requires-12 c = ready c.ranges.z.fits (lit< tt)
 
 pub key_word-requires-13 : goal.key_word-requires-13
-key_word-requires-13 c = ready c.requires c.ranges.z.fits (lit< tt)
+key_word-requires-13 c = ready c.ranges.z.fits (lit< tt)
 
 pub key_word-requires-14 : goal.key_word-requires-14
-key_word-requires-14 c = ready c.requires c.ranges.z.fits (lit< tt)
+key_word-requires-14 c = ready c.ranges.z.fits (lit< tt)
 
 pub key_word-requires-15 : goal.key_word-requires-15
-key_word-requires-15 c = ready c.requires c.ranges.z.fits (lit< tt)
+key_word-requires-15 c = ready c.ranges.z.fits (lit< tt)
 
 pub key_word-requires-16 : goal.key_word-requires-16
-key_word-requires-16 c = ready c.requires c.ranges.z.fits (lit< tt)
+key_word-requires-16 c = ready c.ranges.z.fits (lit< tt)
 
 pub returns : goal.returns
 returns c =

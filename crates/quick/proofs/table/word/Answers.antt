@@ -6,5 +6,6 @@ use Rattle.quick.proofs.table.word.Goals as goal
 
 pub returns : goal.returns
 returns c =
-    let h : c.args.i < length c.args.t.now = omega arith in
-    c.requires.0.each c.args.i h
+    let table = c.boxes in
+    let h : c.args.i < length table.result.now = omega (arith, table.ensures.size) in
+    table.ensures.each c.args.i h
