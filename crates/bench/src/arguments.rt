@@ -6,7 +6,7 @@ ghost use Rattle.bench.specs.Arguments.{word_of, after_switches, after_files, af
 use std::env::{Env, FillError};
 use tdes::Engine;
 
-// What one argument is. Unknown: it starts with a dash and is no switch.
+// What one argument is. Unknown: it starts with a dash and is no switch; no `None`, since it is a word that the definitions judge.
 #[derive(Clone, Copy)]
 pub enum Word {
     Plain,

@@ -57,7 +57,8 @@ pub struct Bank {
     pub value: [u8; 16],
 }
 
-// Tags 01 to 04, 06 and 07; the agent's AID is undefined where its size is 0.
+// Tags 01 to 04, 06 and 07; the agent's AID is undefined where its size is 0. They stay beside the flag: the laws proper_ranges and
+// ranges_proper (proofs/Spelled.antt) judge heads that are not personalized and whose values aren't zero.
 #[derive(Clone, Copy, PartialEq, Eq, Debug)]
 pub struct Parameters {
     pub personalized: bool,

@@ -13,7 +13,8 @@ pub enum Commits {
     HotTwice(State),
 }
 
-// The status word, which also ends the reply; the commits; the card's head afterwards; the new log record, void where there is none.
+// The status word, which also ends the reply; the commits; the card's head afterwards; the new log record, void where there is none. Word
+// and record stand beside the commits, since the definition `transaction` (specs/Sums.antt) reads them of any outcome.
 #[derive(Clone, Copy)]
 pub struct Outcome {
     pub status: u16,

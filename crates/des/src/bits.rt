@@ -10,7 +10,8 @@ fn bit(v: u8, k: usize) -> u8
     (v >> k) % 2
 }
 
-// The bits of eight numbers, W of each.
+// The bits of eight numbers, W of each. A loop fills the array, here and in three functions more: `array::from_fn` is no plainer, since its
+// closure would need the function's `requires` again.
 pub fn binaries<const W: usize, const N: usize>(numbers: [u8; 8]) -> [u8; N]
     requires { (0 < W) × (W ≤ 8) × (N ≡ W * 8) }
     ensures { result ≡ binaries W numbers }

@@ -51,7 +51,8 @@ impl Buffer {
         &self.bytes[..self.len.min(CAPACITY)]
     }
 
-    // The bytes in use over the front of the area, and how many they are; 0 and nothing where they don't fit.
+    // The bytes in use over the front of the area, and how many they are; 0 and nothing where they don't fit. It is no `Option`: the
+    // definition `copied` says 0.
     pub fn copy_front(&self, area: &mut [u8]) -> usize
         ensures { (result ≡ copied (content self.now) area.old) × (area.new ≡ paste area.old 0 (content self.now)) }
     {

@@ -32,7 +32,8 @@ fn cipher(r: u32, k: u64) -> u32
     join(join(w0, w1), join(w2, w3)) ^ join(join(w4, w5), join(w6, w7))
 }
 
-// The sixteen rounds on the two halves of a word, two a turn; the halves of the last are exchanged.
+// The sixteen rounds on the two halves of a word, two a turn; the halves of the last are exchanged. The index names a turn's two keys:
+// `chunks_exact` is no plainer.
 pub fn rounds(ks: &[u64; 16], b: u64) -> u64
     ensures { binary 64 result ≡ rounds (map key_bits ks.now) (take 32 (binary 64 b)) (drop 32 (binary 64 b)) }
 {

@@ -17,7 +17,7 @@ fn turned(c: u64, n: u64) -> u64
     ((c * 0x1000_0001) >> n) % 0x1000_0000
 }
 
-// Permuted choice 2 of the halves in a word: the sum of the table's words for its nibbles.
+// Permuted choice 2 of the halves in a word: the sum of the table's words for its nibbles. The index names a row of the table.
 fn choice2(x: u64) -> u64
     ensures { key_bits result ≡ permute PC2 (binary 56 x) }
 {
