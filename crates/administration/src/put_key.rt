@@ -19,6 +19,6 @@ pub fn put_key(context: &Context, p2: u8, body: [u8; 48]) -> Outcome
         return context.refused(Refusal::SecurityNotSatisfied);
     }
     let bytes = received(context.engine, context.dek(), body);
-    let next = with_keys(Set::of(p2), Keys::from_bytes(&bytes), &context.head);
+    let next = with_keys(Set::from(p2), Keys::from_bytes(&bytes), &context.head);
     granted(Commits::HotAndCold, next, context.session.ended())
 }

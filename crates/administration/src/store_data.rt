@@ -90,12 +90,12 @@ pub fn personalized(head: &Head) -> Head
     })
 }
 
-// 01's rules before the values are read: no TLV is past the end.
+// 01's rules in their order; `good` says that the values are right.
 #[tactic(auto, unfolding(commands_spec::specs::StoreData::store_status))]
-pub fn store_status(context: &Context, body: &[u8]) -> Result<(), Refusal>
+pub fn store_status(context: &Context, body: &[u8], good: bool) -> Result<(), Refusal>
     ensures { status_of result ≡ store_status context.now.head.purse.parameters.personalized
         (context.now.head.purse.debit.defined && context.now.head.purse.credit.defined)
-        (access context.now.session.channel.level) (within (length body.now) body.now) true }
+        (access context.now.session.channel.level) (within (length body.now) body.now) good }
 {
     let purse = &context.head.purse;
     let keyed = purse.debit.defined && purse.credit.defined;
@@ -107,7 +107,8 @@ pub fn store_status(context: &Context, body: &[u8]) -> Result<(), Refusal>
         Access::Admin <= context.access(),
         Refusal::SecurityNotSatisfied,
     )?;
-    ensure(within(body), Refusal::DataPastEnd)
+    ensure(within(body), Refusal::DataPastEnd)?;
+    ensure(good, Refusal::WrongData)
 }
 
 // The data that personalizes the card.
@@ -115,7 +116,8 @@ pub fn store_status(context: &Context, body: &[u8]) -> Result<(), Refusal>
 pub fn store_data(context: &Context, body: &[u8]) -> Outcome
     ensures { result ≡ store_data_of context.now.head context.now.session body.now }
 {
-    if let Err(refusal) = store_status(context, body) {
+    // No value is read before the other rules let the data pass.
+    if let Err(refusal) = store_status(context, body, true) {
         return context.refused(refusal);
     }
     let st = stored_all(context.engine, context.dek(), body, context.head);

@@ -10,7 +10,7 @@ pub const MAC_SIZE: u8 = 8;
 impl Plain {
     // Whether Lc is right for a command without a C-MAC.
     #[tactic(auto, unfolding(crate::specs::Lengths::plain_length))]
-    pub fn length(self, lc: u8) -> bool
+    pub(crate) fn length(self, lc: u8) -> bool
         ensures { result ≡ plain_length self lc }
     {
         match self {
@@ -25,7 +25,7 @@ impl Plain {
 impl Signed {
     // Whether Lc, which counts the C-MAC, is right for a command with one.
     #[tactic(auto, unfolding(crate::specs::Lengths::signed_length))]
-    pub fn length(self, lc: u8) -> bool
+    pub(crate) fn length(self, lc: u8) -> bool
         ensures { result ≡ signed_length self lc }
     {
         match self {

@@ -23,7 +23,7 @@ fn is_tag(tag: u8) -> bool
 impl Plain {
     // Whether P1 and P2 are right for a command without a C-MAC.
     #[tactic(auto, unfolding(crate::specs::Parameters::plain_parameters, crate::specs::Parameters::are))]
-    pub fn parameters(self, p1: u8, p2: u8) -> bool
+    pub(crate) fn parameters(self, p1: u8, p2: u8) -> bool
         ensures { result ≡ plain_parameters self p1 p2 }
     {
         match self {
@@ -38,7 +38,7 @@ impl Plain {
 
     // READ RECORD's P1.
     #[tactic(auto, unfolding(crate::specs::Parameters::has_record))]
-    pub fn has_record(self, p1: u8, logsize: u8) -> bool
+    pub(crate) fn has_record(self, p1: u8, logsize: u8) -> bool
         ensures { result ≡ has_record self p1 logsize }
     {
         self != Plain::ReadRecord || (1..=logsize).contains(&p1)
@@ -48,7 +48,7 @@ impl Plain {
 impl Signed {
     // Whether they are for a command with one.
     #[tactic(auto, unfolding(crate::specs::Parameters::signed_parameters, crate::specs::Parameters::are))]
-    pub fn parameters(self, p1: u8, p2: u8) -> bool
+    pub(crate) fn parameters(self, p1: u8, p2: u8) -> bool
         ensures { result ≡ signed_parameters self p1 p2 }
     {
         match self {

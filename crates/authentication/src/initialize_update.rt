@@ -43,7 +43,7 @@ fn update_answer(engine: Engine, set: u8, enc: [u8; 16], host: [u8; 8], card: [u
 pub fn initialize_update(context: &Context, p1: u8, host: [u8; 8], card: [u8; 8]) -> Outcome
     ensures { result ≡ initialize_update_of context.now.head context.now.session p1 host card }
 {
-    let set = Set::of(p1);
+    let set = Set::from(p1);
     let known = key_set_of(set, &context.head);
     if !known.defined {
         return context.refused(Refusal::UndefinedKeySet);

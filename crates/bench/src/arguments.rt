@@ -95,7 +95,7 @@ impl Asked {
     }
 }
 
-// Whether there is an argument of this number.
+// Whether there is an argument of this number. `cipher` has it too: the two programs share no crate above the cipher's.
 fn is_given(rt: &impl Env, i: usize) -> bool {
     !matches!(rt.arg(i, &mut []), Err(FillError::NotPresent))
 }
@@ -124,7 +124,7 @@ pub fn read(rt: &impl Env) -> Asked {
     )
 }
 
-// Writes bytes. Where that fails, they are passed over.
+// Writes bytes, as `cipher` does. Where that fails, they are passed over.
 fn write(out: &impl Print, bytes: &[u8]) {
     let _ = out.write_all(bytes);
 }

@@ -6,7 +6,7 @@ use std::io::{self, Read};
 // The input area, and the output area.
 pub const AREA_SIZE: usize = 65536;
 
-// The bytes in hand, at the front of their area.
+// The bytes in hand, at the front of their area: of fixed size, as all memory of the program is.
 #[derive(Drop)]
 pub struct Input {
     pub area: [u8; AREA_SIZE],

@@ -107,7 +107,7 @@ impl<'a> Runner<'a> {
     }
 
     // The frame that leads `s`.
-    pub fn run_frame(&mut self, s: &[u8], output: &mut Output)
+    pub(crate) fn run_frame(&mut self, s: &[u8], output: &mut Output)
         requires { (whole size_ok s.now ≡ true) × (output.old.written + longest_line ≤ length output.old.area.now) }
         ensures same { Same self.old self.new }
         ensures same_area { output.new.area.ghost_name ≡ output.old.area.ghost_name }

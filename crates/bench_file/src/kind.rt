@@ -11,7 +11,7 @@ pub enum Kind {
 }
 
 impl Kind {
-    // The kind of a number; no other number has one.
+    // The kind of a number; no other number has one. No `TryFrom`: its error would say no more than `None`.
     pub fn of(byte: u8) -> Option<Kind>
         ensures some { IfSome result (λ kind. number kind ≡ byte) }
         ensures none { IfNone result ((kind : Kind) → number kind ≡ byte → ⊥) }

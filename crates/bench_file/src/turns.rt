@@ -15,7 +15,7 @@ use crate::front::front_of;
 use crate::line::{LONGEST_LINE, MALFORMED_LINE};
 use framing::{Front, Next, Output, frame_size};
 
-// How many bytes were used and written, and how it goes on.
+// How many bytes were used and written, and how it goes on: the areas stay the caller's.
 #[derive(Clone, Copy)]
 pub struct Turned {
     pub used: usize,
@@ -43,7 +43,8 @@ impl Runner<'_> {
         used + frame_size(rest)
     }
 
-    // All whole frames that lead, as far as their lines have room; how many bytes they are.
+    // All whole frames that lead, as far as their lines have room; how many bytes they are. They are counted and not cut off, since the
+    // definition `Batches` (framing) counts them.
     fn batch(&mut self, input: &[u8], output: &mut Output) -> usize
         requires { output.old.written ≡ 0 }
         ensures same { Same self.old self.new }

@@ -101,7 +101,7 @@ impl Head {
         }
     }
 
-    // The head that stands where there is no card.
+    // The head of no card: all is zero.
     pub fn none() -> Head
         ensures { result ≡ fresh_head no_fixed no_aid no_keys }
     {

@@ -2,7 +2,7 @@
 ghost use Rattle.std.specs.Prelude.{◌≡◌};
 ghost use Rattle.card.specs.Pin.{nibbles, between, well_formed};
 
-// The sixteen nibbles of a block.
+// The sixteen nibbles of a block. A loop fills the array: `array::from_fn` is no plainer, since a byte has two of them.
 fn nibbles(block: [u8; 8]) -> [u8; 16]
     ensures { result ≡ nibbles block }
 {

@@ -7,7 +7,7 @@ use crate::malformed::Malformed;
 // How long a line can be.
 const CAPACITY: usize = 4096;
 
-// The first `len` bytes are the line so far; it has no length where there is no room for it all.
+// The first `len` bytes are the line so far; it has no length where there is no room for it all. No heap is used, and a line has a limit.
 #[derive(Clone, Copy)]
 pub struct Line {
     bytes: [u8; CAPACITY],

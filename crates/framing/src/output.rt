@@ -2,7 +2,7 @@
 ghost use Rattle.std.specs.Prelude.{◌≡◌, ◌+◌, ◌≤◌, ◌<◌, leb, length};
 ghost use Rattle.framing.specs.Step.{PutsBehind};
 
-// The output area, and how many bytes at its front are written.
+// The output area, and how many bytes at its front are written. No heap is there for a `Vec`, and the lines go to an area that is lent.
 #[derive(Drop)]
 pub struct Output<'a> {
     pub area: &'a mut [u8],

@@ -82,7 +82,8 @@ fn piece<const N: usize>(part: &Option<[u8; N]>) -> &[u8]
     }
 }
 
-// H's other copy, the spare slot where the change logs, C's other copy where it changes C, and the root.
+// H's other copy, the spare slot where the change logs, C's other copy where it changes C, and the root. Memory and limit are a whole
+// run's, which begins here: a `Writer` has them from here on.
 pub fn commit(memory: &mut [u8], change: Change, limit: usize) -> usize
     ensures { (result ≡ length (plan change memory.old))
         × (memory.new ≡ leaves (plan change memory.old) limit memory.old) }

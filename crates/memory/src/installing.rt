@@ -11,7 +11,7 @@ use stores::Writer;
 // Magic off, root, fixed part, H, C, magic on.
 const INSTALL_STORES: usize = 1 + 1 + FIXED_SIZE + HOT_SIZE + COLD_SIZE + 1;
 
-// The fresh card of the fixed part, the AID and key set 3.
+// The fresh card of the fixed part, the AID and key set 3; a whole run, as a commit is.
 pub fn install(memory: &mut [u8], fixed: Fixed, aid: Aid, admin: Keys, limit: usize) -> usize
     ensures { (result ≡ length (install_plan fixed aid admin))
         × (memory.new ≡ leaves (install_plan fixed aid admin) limit memory.old) }

@@ -37,7 +37,8 @@ fn agent_of(v: &[u8]) -> Aid
     }
 }
 
-// The parameters with the value of a tag of 01 to 04, 06 or 07.
+// The parameters with the value of a tag of 01 to 04, 06 or 07. Tags are 01's numbers and no enum, and engine and DEK, tag and value stand
+// apart, as in the definitions `parameter_set`, `datum_set` and `value_ok`, which answer for every number.
 #[tactic(auto, unfolding(commands_spec::specs::Data::parameter_set))]
 fn parameter_set(engine: Engine, dek: [u8; 16], tag: u8, v: &[u8], p: &Parameters) -> Parameters
     ensures { result ≡ parameter_set dek tag v.now p.now }

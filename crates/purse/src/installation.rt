@@ -18,7 +18,8 @@ struct Data {
     admin: Keys,
 }
 
-// What the data say; None where a number is out of its range, or there are not as many bytes as they say.
+// What the data say; None where a number is out of its range, or there are not as many bytes as they say. The ranges are the data's own, as
+// in the definition `data_ok`; a head is judged by `is_proper` when it is read.
 #[tactic(auto, using(crate::proofs::Installing::keys_last), unfolding(purse_spec::specs::Installation::data_ok, purse_spec::specs::Installation::data_aid, purse_spec::specs::Installation::data_fixed, purse_spec::specs::Installation::data_keys))]
 fn data_in(bytes: &[u8]) -> Option<Data>
     ensures { result ≡ pick (data_ok bytes.now)

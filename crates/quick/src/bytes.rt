@@ -1,4 +1,4 @@
-// Eight bytes as a word, the first highest, and back.
+// Eight bytes as a word, the first highest, and back: named functions, whose contracts are in the words of `des_spec`.
 ghost use Rattle.std.specs.Prelude.{◌≡◌};
 ghost use Rattle.des_spec.specs.Bits.{binary, bits_of, bytes_of};
 

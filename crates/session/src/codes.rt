@@ -14,12 +14,12 @@ impl From<Set> for u8 {
     }
 }
 
-impl Set {
-    // The key set of a number; the third for any but 1 and 2.
+// The key set of a number; the third for any but 1 and 2.
+impl From<u8> for Set {
+    ghost from_gives = { λ n set. set ≡ set_of n };
+
     #[tactic(auto, unfolding(crate::specs::Codes::set_of))]
-    pub fn of(n: u8) -> Set
-        ensures { result ≡ set_of n }
-    {
+    fn from(n: u8) -> Set {
         match n {
             1 => Set::Debit,
             2 => Set::Credit,
@@ -52,15 +52,15 @@ impl Level {
         }
     }
 
-    // The level and key set of a number.
+    // The level and key set of a number. No `From`: it serves the packing alone.
     #[tactic(auto, unfolding(crate::specs::Codes::level_of))]
     pub(crate) fn of(n: u8) -> Level
         ensures { result ≡ level_of n }
     {
         match n {
             0x00 => Level::Closed,
-            0x01..=0x0F => Level::Mac(Set::of(n)),
-            _ => Level::Rmac(Set::of(n - 0x10)),
+            0x01..=0x0F => Level::Mac(Set::from(n)),
+            _ => Level::Rmac(Set::from(n - 0x10)),
         }
     }
 }
@@ -90,14 +90,14 @@ impl Pending {
         }
     }
 
-    // What is pending, by its number and amount.
+    // What is pending, by its number and amount: two values, so no `From`.
     #[tactic(auto, unfolding(crate::specs::Codes::pending_of))]
     pub(crate) fn of(n: u8, amount: u16) -> Pending
         ensures { result ≡ pending_of n amount }
     {
         match n {
             0 => Pending::Nothing,
-            1..=3 => Pending::Update(Set::of(n)),
+            1..=3 => Pending::Update(Set::from(n)),
             4 => Pending::Debiting(amount),
             _ => Pending::Crediting(amount),
         }

@@ -15,7 +15,7 @@ use objects::{Context, done};
 use octets::{Buffer, word_at};
 use session::{Access, Pending};
 
-// A bank credit wants bank information and a PIN.
+// A bank credit wants bank information and a PIN. P1 is 01's number and no enum, here and below: the definitions answer for every number.
 #[tactic(auto, unfolding(commands_spec::specs::InitializeTransaction::lacks))]
 pub fn lacks(p1: u8, bank: bool, pin: bool) -> bool
     ensures { result ≡ lacks p1 bank pin }
@@ -50,7 +50,7 @@ fn overdraws(debit: bool, amount: u16, balance: u16, maxdebit: u16) -> bool
     debit && (maxdebit < amount || balance < amount)
 }
 
-// A credit that would pass the maximum balance.
+// A credit that would pass the maximum balance. The sum is made wide and not by `checked_add`: the edit sum_of_sixteen_bits is about it.
 fn overfills(debit: bool, amount: u16, balance: u16, maxbalance: u16) -> bool
     ensures { result ≡ (not debit && ltb maxbalance (balance + amount)) }
 {

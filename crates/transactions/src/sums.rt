@@ -1,4 +1,4 @@
-// The sums of a transaction. None wraps: a balance past its limits is `None`.
+// The sums of a transaction. None wraps: a balance past its limits is `None`. Direction and amount stay apart, as in the definitions.
 ghost use Rattle.std.specs.Prelude.{◌≡◌, Some, None};
 ghost use Rattle.octets.specs.Choice.{pick};
 ghost use Rattle.commands_spec.specs.Transaction.{keeps_limits, log_amount, new_balance};
