@@ -1,6 +1,7 @@
 #!/usr/bin/env bash
 # Must-fail edits are refused at a false fact, and where they say: what 'rt ci' says of each edit stands at a law, a step of one, or a function's
-# contract that the edit's second line names, and whose text the edit leaves alone; no limit of the prover refused it, and no missing name.
+# contract that the edit's second line names, a method's with its type, and whose text the edit leaves alone; no limit of the prover refused it, and
+# no missing name.
 # usage: tests/refusals.sh [LOG]: reads what 'rt ci' printed, target/rt-ci.log as .ci/run keeps it; of another log, such as what
 # 'rt must-fail NAME' printed, the crates that it names alone.
 . "$(dirname "$0")/lib.sh"
@@ -16,7 +17,9 @@ REFUSED = "refused, as it must be: "
 LAW = re.compile(r"(?:\./)?(proofs/[^:]+\.antt):(\d+):\d+: error: `([^`]+)`")
 CONTRACT = re.compile(r"note: (?:\./)?(src/[^:]+\.rt):(\d+):\d+: it is not proved that")
 MISSING = re.compile(r"is not in scope|has no field|missing field|can be named from here")
-WORD = r"[\w'-]+"
+WORD = r"[\w'-]+(?:::\w+)*"
+TYPE = re.compile(r"^(?:pub )?(?:impl|trait)\b(?:<[^>]*>)? *(?:.* for )?(\w+)")
+FUNCTION = re.compile(r"^(?:[^/]*\s)?fn (\w+)")
 
 
 def text(path):
@@ -56,24 +59,38 @@ def law(source, name):
     return "\n".join(found)
 
 
+def functions(source):
+    """A source's functions: the number of each one's first line, and its name, a method's with its type."""
+    within = ""
+    for number, line in enumerate(source.split("\n")):
+        opened, found = TYPE.match(line), FUNCTION.match(line)
+        if opened:
+            within = f"{opened[1]}::"
+        elif found:
+            yield number, f"{within if line.startswith(' ') else ''}{found[1]}"
+
+
 def contract(source, name):
     """A function's signature and contract."""
-    found = []
-    for line in source.split("\n"):
-        if found or re.search(rf"^(?:[^/]*\s)?fn {name}[(<]", line):
-            found.append(line)
-            if line.endswith("{") and not re.match(r" *(requires|ensures)\b", line):
-                return "\n".join(found)
+    lines, found = source.split("\n"), []
+    for number, own in functions(source):
+        if own == name:
+            for line in lines[number:]:
+                found.append(line)
+                if line.endswith("{") and not re.match(r" *(requires|ensures)\b", line):
+                    return "\n".join(found)
     return ""
 
 
-def module(crate, path):
-    """The source file of the function whose proofs lie at a path."""
+def module(crate, path, name):
+    """The source file of the function of this name whose proofs lie at a path: the folder's, or where it is a method the file that has it."""
     inside = os.path.dirname(os.path.dirname(path))
-    while inside:
-        if os.path.isfile(f"{crate}/src/{inside.removeprefix('proofs/')}.rt"):
-            return f"src/{inside.removeprefix('proofs/')}.rt"
+    while inside and not os.path.isfile(f"{crate}/src/{inside.removeprefix('proofs/')}.rt"):
         inside = os.path.dirname(inside)
+    own = [f"{crate}/src/{inside.removeprefix('proofs/')}.rt"] if inside else []
+    for file in own + sorted(glob.glob(f"{crate}/src/*.rt")):
+        if name in (found for _, found in functions(text(file))):
+            return file.removeprefix(f"{crate}/")
     return "src/main.rt" if os.path.isfile(f"{crate}/src/main.rt") else "src/lib.rt"
 
 
@@ -84,15 +101,16 @@ def place(crate, said, files):
         lines, line = files.get(at[1], text(f"{crate}/{at[1]}")).split("\n"), int(at[2])
         while lines[line - 1].lstrip().startswith("#["):  # a function's attribute stands before it
             line += 1
-        before = lines[:line]
-        names = [found[1] for line in before for found in [re.search(r"^(?:[^/]*\s)?fn (\w+)", line)] if found]
+        names = [name for number, name in functions("\n".join(lines[:line]))]
         return (contract, at[1], names[-1]) if names else None
     at = LAW.match(said)
     if not at or MISSING.search(said):
         return None
     # (a file right in proofs/ has lemmas, whatever its name)
     if os.path.dirname(at[1]) != "proofs" and os.path.basename(at[1]) in ("Answers.antt", "Invariants.antt", "Proof.antt"):
-        return contract, module(crate, at[1]), os.path.basename(os.path.dirname(at[1]))
+        holder, name = os.path.dirname(at[1]).split("/")[-2:]
+        name = f"{holder}::{name}" if holder[0].isupper() else name
+        return contract, module(crate, at[1], name), name
     return law, at[1], at[3]
 
 

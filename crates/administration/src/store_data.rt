@@ -1,7 +1,6 @@
 // STORE DATA: a list of tag, length, value, which personalizes the card.
-ghost use Rattle.std.specs.Prelude.{◌≡◌, ◌&&◌, length, true};
+ghost use Rattle.std.specs.Prelude.{◌≡◌, length, true};
 ghost use Rattle.apdu.specs.Refusals.{status_of};
-ghost use Rattle.session.specs.Access.{access};
 ghost use Rattle.commands_spec.specs.StoreData.{acceptable, complete, personalized, store_data_of, store_status};
 ghost use Rattle.commands_spec.specs.StoreData.{stored, stored_all, unread, within};
 
@@ -90,24 +89,24 @@ pub fn personalized(head: &Head) -> Head
     })
 }
 
-// 01's rules in their order; `good` says that the values are right.
+// 01's rules in their order; `inside` says that no TLV is past the end, `good` that the rest of the data is right. Five values and no
+// `Context`, and access as a number: the definition answers for every five.
 #[tactic(auto, unfolding(commands_spec::specs::StoreData::store_status))]
-pub fn store_status(context: &Context, body: &[u8], good: bool) -> Result<(), Refusal>
-    ensures { status_of result ≡ store_status context.now.head.purse.parameters.personalized
-        (context.now.head.purse.debit.defined && context.now.head.purse.credit.defined)
-        (access context.now.session.channel.level) (within (length body.now) body.now) good }
+pub fn store_status(
+    personalized: bool,
+    keyed: bool,
+    held: u8,
+    inside: bool,
+    good: bool,
+) -> Result<(), Refusal>
+    ensures { status_of result ≡ store_status personalized keyed held inside good }
 {
-    let purse = &context.head.purse;
-    let keyed = purse.debit.defined && purse.credit.defined;
+    ensure(!personalized && keyed, Refusal::ConditionsNotSatisfied)?;
     ensure(
-        !purse.parameters.personalized && keyed,
-        Refusal::ConditionsNotSatisfied,
-    )?;
-    ensure(
-        Access::Admin <= context.access(),
+        u8::from(Access::Admin) <= held,
         Refusal::SecurityNotSatisfied,
     )?;
-    ensure(within(body), Refusal::DataPastEnd)?;
+    ensure(inside, Refusal::DataPastEnd)?;
     ensure(good, Refusal::WrongData)
 }
 
@@ -116,8 +115,16 @@ pub fn store_status(context: &Context, body: &[u8], good: bool) -> Result<(), Re
 pub fn store_data(context: &Context, body: &[u8]) -> Outcome
     ensures { result ≡ store_data_of context.now.head context.now.session body.now }
 {
+    let purse = &context.head.purse;
     // No value is read before the other rules let the data pass.
-    if let Err(refusal) = store_status(context, body, true) {
+    let status = store_status(
+        purse.parameters.personalized,
+        purse.debit.defined && purse.credit.defined,
+        u8::from(context.access()),
+        within(body),
+        true,
+    );
+    if let Err(refusal) = status {
         return context.refused(refusal);
     }
     let st = stored_all(context.engine, context.dek(), body, context.head);

@@ -28,14 +28,18 @@ fn authenticated(context: &Context, set: Set, p1: u8, command: &[u8], body: [u8;
     let session = context.session;
     let offer = session.offer;
     if body[..8] != offer.expected[..] {
-        return refused(context.head, session.closed(), Refusal::NotAuthenticated);
+        return refused(
+            context.head,
+            session.closed(),
+            u16::from(Refusal::NotAuthenticated),
+        );
     }
     let own = cmac(context.engine, offer.mac, [0; 8], command, 13);
     if body[8..] != own[..] {
         return refused(
             context.head,
             session.closed(),
-            Refusal::SecurityNotSatisfied,
+            u16::from(Refusal::SecurityNotSatisfied),
         );
     }
     let channel = Channel {

@@ -55,7 +55,7 @@ not_done InstallationData h = refl
 not_done Cut h = refl
 
 -- the line of a response, of which the area's first bytes are lent
-pub response-line : (c : Called) (area : List ℕ) (n : ℕ) → c.answer ≡ Done → n ≡ min c.length (length area)
+pub response-line : (c : Called Answer) (area : List ℕ) (n : ℕ) → c.answer ≡ Done → n ≡ min c.length (length area)
     → response_line (take n area) ≡ command_line c area
 unfolding command_line
 response-line c area n z e =
@@ -65,7 +65,7 @@ response-line c area n z e =
 -- ---- runs
 
 -- memory, the line and the session behind what a call said
-module _ (r r' : Runner) (o o' : Output) (c : Called) (s : r'.session ≡ session_after r.session (number_of c.answer) c.session) where
+module _ (r r' : Runner) (o o' : Output) (c : Called Answer) (s : r'.session ≡ session_after r.session (number_of c.answer) c.session) where
   pub install-runs : (d x : List ℕ) (limit n : ℕ) → n ≡ limit → x ≡ d → Gives (installation r.memory.now x n) c r'.memory.now []
       → PutsBehind (answer_line 0x49 (number_of c.answer)) o o' → Runs (install d limit) r o r' o'
   unfolding line ran run moved

@@ -4,13 +4,14 @@ use Rattle.octets.specs.Choice.{pick}
 use Rattle.framing.specs.declared.output.Output.{Output}
 use Rattle.framing.specs.Step.{PutsBehind}
 use Rattle.purse.specs.Called.{number_of}
+use Rattle.purse.specs.declared.calls.Answer.{Answer}
 use Rattle.purse.specs.declared.calls.Called.{Called}
 use Rattle.purse_spec.specs.History.{Call}
 use Rattle.bench_file.specs.declared.frame.Runner.{Runner}
 use Rattle.bench_file.specs.Lines.{Bench, bench_of, ran, moved, line, answer_line, response_line}
 
 -- the line of what a command said, with its response area
-unfoldable pub command_line : Called → List ℕ → List ℕ
+unfoldable pub command_line : Called Answer → List ℕ → List ℕ
 command_line r area =
     pick (eqb (number_of r.answer) 0) (response_line (take r.length area)) (answer_line 0x43 (number_of r.answer))
 

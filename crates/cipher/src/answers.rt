@@ -1,7 +1,7 @@
 // The answers to the lines of the input, which comes in pieces of any size.
 use crate::line::Line;
 use crate::malformed::Malformed;
-use crate::output::print_digits;
+use crate::output::{print_digits, write};
 use crate::test::{ROOM, Test};
 use tdes::Engine;
 
@@ -25,13 +25,12 @@ impl<'a, P: Print> Answers<'a, P> {
 
     // Takes the next bytes of the input. A line feed has the line answered.
     pub fn take(&mut self, bytes: &[u8]) {
-        for &byte in bytes {
-            if byte == b'\n' {
+        for (feeds, piece) in bytes.split(|byte| *byte == b'\n').enumerate() {
+            if feeds != 0 {
                 self.answer();
                 self.line.clear();
-            } else {
-                self.line.push(byte);
             }
+            self.line.append(piece);
         }
     }
 
@@ -44,17 +43,16 @@ impl<'a, P: Print> Answers<'a, P> {
 
     // Writes the answer to the line: what its test gives, or what is malformed.
     fn answer(&self) {
-        let mut room = [0; ROOM];
-        match self.result(&mut room) {
-            Ok(bytes) => print_digits(self.out, bytes),
-            Err(malformed) => {
-                let _ = self.out.println(malformed);
-            }
+        if let Err(malformed) = self.run() {
+            write(self.out, malformed.answer());
         }
     }
 
-    // What the line's test gives, in the room.
-    fn result<'r>(&self, room: &'r mut [u8; ROOM]) -> Result<&'r [u8], Malformed> {
-        Test::of(self.line.bytes()?)?.run(self.engine, room)
+    // Writes what the line's test gives. Its room is cleared where the line is a test, and not before.
+    fn run(&self) -> Result<(), Malformed> {
+        let test = Test::of(self.line.bytes()?)?;
+        let mut room = [0; ROOM];
+        print_digits(self.out, test.run(self.engine, &mut room)?);
+        Ok(())
     }
 }

@@ -29,12 +29,12 @@ impl Line {
         self.len = Some(0);
     }
 
-    // One byte more.
-    pub fn push(&mut self, byte: u8) {
+    // Bytes more; it has no length then where they don't fit.
+    pub fn append(&mut self, bytes: &[u8]) {
         match self.len {
-            Some(n) if n < CAPACITY => {
-                self.bytes[n] = byte;
-                self.len = Some(n + 1);
+            Some(n) if bytes.len() <= CAPACITY - n => {
+                self.bytes[n..n + bytes.len()].copy_from_slice(bytes);
+                self.len = Some(n + bytes.len());
             }
             _ => self.len = None,
         }

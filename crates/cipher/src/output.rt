@@ -8,7 +8,7 @@ pub fn write(out: &impl Print, bytes: &[u8]) {
 // Writes a line: the digits of `bytes`, or a dash where there are none.
 pub fn print_digits(out: &impl Print, bytes: &[u8]) {
     if bytes.is_empty() {
-        write(out, b"-");
+        return write(out, b"-\n");
     }
     for piece in bytes.chunks(256) {
         let mut room = [0; 512];

@@ -62,7 +62,7 @@ pub fn authorized(g: Signed, context: &Context, request: &Request) -> Outcome
         return refused(
             context.head,
             session.closed(),
-            Refusal::SecurityNotSatisfied,
+            u16::from(Refusal::SecurityNotSatisfied),
         );
     }
     let n = usize::from(request.header.lc - MAC_SIZE);
@@ -77,7 +77,7 @@ pub fn authorized(g: Signed, context: &Context, request: &Request) -> Outcome
         return refused(
             context.head,
             session.closed(),
-            Refusal::SecurityNotSatisfied,
+            u16::from(Refusal::SecurityNotSatisfied),
         );
     }
     let chained = Context {

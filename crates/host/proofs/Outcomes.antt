@@ -13,17 +13,18 @@ use Rattle.session.specs.Packing.{unpacked, unpacking}
 use Rattle.session.proofs.Reading.{unpacking-some, unpacking-none, reads_octets}
 use Rattle.purse_spec.specs.Calls.{Run}
 use Rattle.purse_spec.specs.Commands.{least_area, command}
+use Rattle.purse.specs.declared.calls.Answer.{Answer}
 use Rattle.purse.specs.declared.calls.Called.{Called}
 use Rattle.purse.specs.Called.{number_of, Gives}
 use Rattle.host.specs.Host.{session_size, handed, number, area_after, outcome, length_tested, in_session, command_call}
 use Rattle.host.proofs.Bounds.{Small}
 
 -- what the number asks of a call that gives a small run
-pub gives_small : (r : Run) (c : Called) (m area : List ℕ) → Gives r c m area → Small r → (c.length < 256) × (c.count < 65536)
+pub gives_small : (r : Run) (c : Called Answer) (m area : List ℕ) → Gives r c m area → Small r → (c.length < 256) × (c.count < 65536)
 gives_small r c m area e s = (rw e.length s.size, rw e.count s.count)
 
 -- installation and start-up, which have no response
-pub tested : (m area : List ℕ) (r : Run) (c : Called) (n : ℕ) (m' area' : List ℕ) → length m ≡ memory_size → length area ≡ session_size
+pub tested : (m area : List ℕ) (r : Run) (c : Called Answer) (n : ℕ) (m' area' : List ℕ) → length m ≡ memory_size → length area ≡ session_size
     → Gives r c m' [] → n ≡ number (number_of c.answer) c.length c.count → area' ≡ area_after (number_of c.answer) c.session area
     → handed n m' area' [] ≡ length_tested m area r
 unfolding length_tested outcome
@@ -46,7 +47,7 @@ module _ (m area bytes random response : List ℕ) (limit : ℕ) where
         rw (eq-eqb (length m) memory_size a, le-ltb (length response) least_area b, eq-eqb (length random) 8 d, o)
 
     -- or as one
-    pub command_run : (s : Session) (c : Called) (n : ℕ) (m' area' response' : List ℕ) → unpacking area ≡ Some s
+    pub command_run : (s : Session) (c : Called Answer) (n : ℕ) (m' area' response' : List ℕ) → unpacking area ≡ Some s
         → Gives (command m s bytes random response limit) c m' response'
         → (n ≡ number (number_of c.answer) c.length c.count) × (area' ≡ area_after (number_of c.answer) c.session area)
         → handed n m' area' response' ≡ command_call m area bytes random response limit

@@ -39,6 +39,6 @@ impl Context {
     pub fn refused(&self, refusal: Refusal) -> Outcome
         ensures { result ≡ refused self.now.head (ended self.now.session) (refusal_word refusal) }
     {
-        outcomes::refused(self.head, self.session.ended(), refusal)
+        outcomes::refused(self.head, self.session.ended(), u16::from(refusal))
     }
 }

@@ -2,22 +2,19 @@
 ghost use Rattle.std.specs.Prelude.{◌≡◌};
 ghost use Rattle.octets.specs.Buffers.{appended};
 ghost use Rattle.octets.specs.Words.{word};
-ghost use Rattle.apdu.specs.Refusals.{refusal_word};
 ghost use Rattle.card.specs.Log.{void};
 ghost use Rattle.commands_spec.specs.Outcomes.{refused};
 
-use apdu::Refusal;
 use card::{Head, Record};
 use commands_spec::{Commits, Outcome};
 use octets::Buffer;
 use session::Session;
 
-// A status word alone, on a card as it was.
+// A status word alone, on a card as it was. A number and no `Refusal`: the definition `refused` answers for every word.
 #[tactic(auto, using(octets::proofs::Holding::of_piece), unfolding(commands_spec::specs::Outcomes::refused))]
-pub fn refused(head: Head, session: Session, refusal: Refusal) -> Outcome
-    ensures { result ≡ refused head session (refusal_word refusal) }
+pub fn refused(head: Head, session: Session, status: u16) -> Outcome
+    ensures { result ≡ refused head session status }
 {
-    let status = u16::from(refusal);
     Outcome {
         status,
         commits: Commits::Unchanged,

@@ -8,5 +8,5 @@ pub mod writing;
 
 pub use buffer::{Buffer, CAPACITY};
 pub use comparing::all_zero;
-pub use reading::{byte_at, fill, part, word_at};
+pub use reading::{byte_at, byte_from, fill, part, word_at};
 pub use writing::paste;

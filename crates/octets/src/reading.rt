@@ -1,5 +1,5 @@
 // Bytes, numbers and fixed parts of a byte string. Past its end all is zero, so nothing is required.
-ghost use Rattle.std.specs.Prelude.{◌≡◌, length};
+ghost use Rattle.std.specs.Prelude.{◌≡◌, ◌+◌, length};
 ghost use Rattle.octets.specs.Bytes.{byte_at, field};
 ghost use Rattle.octets.specs.Words.{word_at};
 
@@ -10,6 +10,17 @@ pub fn byte_at(s: &[u8], at: usize) -> u8
     ensures { result ≡ byte_at s.now at }
 {
     s.get(at).copied().unwrap_or(0)
+}
+
+// The byte `i` places after an index: the sum of the two may be past any index.
+pub fn byte_from(s: &[u8], at: usize, i: usize) -> u8
+    ensures { result ≡ byte_at s.now (at + i) }
+{
+    if at < s.len() {
+        byte_at(&s[at..], i)
+    } else {
+        0
+    }
 }
 
 // The number of the two bytes from an index on, the high byte first.

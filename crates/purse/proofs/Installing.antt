@@ -17,6 +17,7 @@ use Rattle.memory.specs.Changes.{install_plan}
 use Rattle.session.specs.Transitions.{unselected}
 use Rattle.purse_spec.specs.Installation.{data_ok, data_fixed, data_aid, data_keys, installation}
 use Rattle.purse.specs.declared.calls.Called.{Called}
+use Rattle.purse.specs.declared.calls.Answer.{Answer}
 use Rattle.purse.specs.declared.calls.Answer.TheVariants.{MemoryLength, InstallationData}
 use Rattle.purse.specs.declared.installation.Data.{Data}
 use Rattle.purse.specs.Called.{Gives, storeless, under_limit}
@@ -53,7 +54,7 @@ module _ (m d : List ℕ) (limit : ℕ) where
   abbrev pub stores_of : Data → List Store
   stores_of x = install_plan x.fixed x.aid x.admin
 
-  pub install_run : (x : Data) (n : ℕ) (m' : List ℕ) (r : Called) → length m ≡ memory_size → Some x ≡ pick (data_ok d) (Some (data_of d)) None
+  pub install_run : (x : Data) (n : ℕ) (m' : List ℕ) (r : Called Answer) → length m ≡ memory_size → Some x ≡ pick (data_ok d) (Some (data_of d)) None
       → n ≡ length (stores_of x) → m' ≡ leaves (stores_of x) limit m → r ≡ under_limit n limit 0 unselected → Gives (installation m d limit) r m' []
   unfolding installation paste
   install_run x n m' r h f i j e =

@@ -65,7 +65,7 @@ refusal_gives a n s m area e = record { answer = e; count = refl; length = refl;
 -- ---- what a run of a plan gives
 
 module _ (p : List Store) (limit : ℕ) (m : List ℕ) (s : Session) (reply area : List ℕ) where
-  pub performed_gives : (n k : ℕ) (m' area' : List ℕ) (r : Called) → n ≡ length p → k ≡ length reply → m' ≡ leaves p limit m
+  pub performed_gives : (n k : ℕ) (m' area' : List ℕ) (r : Called Answer) → n ≡ length p → k ≡ length reply → m' ≡ leaves p limit m
       → area' ≡ pick (ltb limit n) area (paste area 0 reply) → r ≡ under_limit n limit k s → Gives (performed p limit m s reply area) r m' area'
   unfolding performed under_limit
   performed_gives n k m' area' r a b c d e = rw (e, d, c, a, b) (by_limit (ltb limit (length p)))
@@ -81,7 +81,7 @@ module _ (p : List Store) (limit : ℕ) (m : List ℕ) (s : Session) (reply area
       by_limit false = record { answer = refl; count = refl; length = refl; session = refl; memory = refl; response = refl }
 
 -- of an outcome
-pub outcome_gives : (o : Outcome) (m area : List ℕ) (limit n k : ℕ) (m' area' : List ℕ) (r : Called)
+pub outcome_gives : (o : Outcome) (m area : List ℕ) (limit n k : ℕ) (m' area' : List ℕ) (r : Called Answer)
     → Made (commits_of o) m limit n m' → r ≡ under_limit n limit k o.session → k ≡ length (content o.reply)
     → area' ≡ pick (ltb limit n) area (paste area 0 (content o.reply)) → Gives (outcome_run o m area limit) r m' area'
 unfolding outcome_plan

@@ -29,6 +29,7 @@ use Rattle.commands_spec.specs.Respond.{respond_to, respond}
 use Rattle.purse_spec.specs.Calls.{awaits}
 use Rattle.purse_spec.specs.Commands.{least_area, outcome_run, on_card, command}
 use Rattle.purse.specs.declared.calls.Called.{Called}
+use Rattle.purse.specs.declared.calls.Answer.{Answer}
 use Rattle.purse.specs.declared.calls.Answer.TheVariants.{MemoryLength, NoCard, AreaLength, RandomLength}
 use Rattle.purse.specs.Called.{Gives, storeless}
 use Rattle.purse.proofs.Outcomes.{refusal_gives}
@@ -88,7 +89,7 @@ module _ (m : List ℕ) (s : Session) (bytes random area : List ℕ) (limit : �
   unfolding read_card on_card
   no_card_lem h a n e = rw (passed h a n, reading_none m e) (refusal_gives NoCard 2 s m area refl)
 
-  pub a_card : (h : Head) (x : Record) (drawn : List ℕ) (o : Outcome) (r : Called) (m' area' : List ℕ) → length m ≡ memory_size
+  pub a_card : (h : Head) (x : Record) (drawn : List ℕ) (o : Outcome) (r : Called Answer) (m' area' : List ℕ) → length m ≡ memory_size
       → least_area ≤ length area → length random ≡ 8 → reading m ≡ Some h → x ≡ record_at m (asked bytes) → drawn ≡ field random 0 8
       → o ≡ respond_to h x s bytes drawn → Gives (outcome_run o m area limit) r m' area' → Gives (command m s bytes random area limit) r m' area'
   unfolding on_card awaits respond

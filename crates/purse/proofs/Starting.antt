@@ -20,7 +20,7 @@ use Rattle.purse.specs.Called.{number_of, Gives, storeless}
 use Rattle.purse.proofs.Outcomes.{refusal_gives}
 
 -- what start-up gives, by its answer
-pub start_by : (m : List ℕ) (limit : ℕ) (r : Called) (a : Answer) (s : Session) → r ≡ storeless a s → s ≡ unselected
+pub start_by : (m : List ℕ) (limit : ℕ) (r : Called Answer) (a : Answer) (s : Session) → r ≡ storeless a s → s ≡ unselected
     → number_of a ≡ pick (not (eqb (length m) memory_size)) 1 (pick (is_none (reading m)) 2 0) → Gives (startup m limit) r m []
 unfolding startup reading refusal
 start_by m limit r a s q u e = rw (q, u, performed-nothing) (go (eqb (length m) memory_size) (readable m) e)

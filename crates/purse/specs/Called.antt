@@ -20,7 +20,7 @@ number_of answers.InstallationData = 6
 number_of answers.Cut = 7
 
 -- a call that says r, and leaves memory and the response area so, gives the run x; where it has no response area, that is empty
-pub record Gives (x : Run) (r : Called) (m area : List ℕ) : Type 0 where
+pub record Gives (x : Run) (r : Called Answer) (m area : List ℕ) : Type 0 where
   pub answer : number_of r.answer ≡ x.answer
   pub count : r.count ≡ x.count
   pub length : r.length ≡ x.length
@@ -29,11 +29,11 @@ pub record Gives (x : Run) (r : Called) (m area : List ℕ) : Type 0 where
   pub response : area ≡ x.response
 
 -- what is said of a run without stores and without a response
-abbrev pub storeless : Answer → Session → Called
+abbrev pub storeless : {A : Type 0} → A → Session → Called A
 storeless a s = record { answer = a; count = 0; length = 0; session = s }
 
 -- what is said of a run of n stores under a limit
-unfoldable pub under_limit : ℕ → ℕ → ℕ → Session → Called
+unfoldable pub under_limit : ℕ → ℕ → ℕ → Session → Called Answer
 under_limit n limit size s =
     pick (ltb limit n)
     (record { answer = answers.Cut; count = limit; length = 0; session = unselected })

@@ -26,16 +26,17 @@ impl From<Answer> for u8 {
 }
 
 // The answer; the reported stores; the length of the response; the session handed back, the unselected one where none is.
+// The type of the answer is a parameter: answers that a host adds to the list, such as the C host's 8, can be told the same way.
 #[derive(Clone, Copy)]
-pub struct Called {
-    pub answer: Answer,
+pub struct Called<A = Answer> {
+    pub answer: A,
     pub count: usize,
     pub length: usize,
     pub session: Session,
 }
 
 // An answer of a run without stores and without a response.
-pub fn storeless(answer: Answer, session: Session) -> Called
+pub fn storeless<A>(answer: A, session: Session) -> Called<A>
     ensures { result ≡ storeless answer session }
 {
     Called {

@@ -31,7 +31,7 @@ pub fn select(context: &Context, aid: &[u8]) -> Outcome
         return refused(
             *head,
             session.reselected(false),
-            Refusal::UnknownApplication,
+            u16::from(Refusal::UnknownApplication),
         );
     }
     let answer = select_answer(head, session.verified);

@@ -13,6 +13,15 @@ pub enum Access {
     Admin,
 }
 
+// The number of a level.
+impl From<Access> for u8 {
+    ghost from_gives = { λ access n. n ≡ rank access };
+
+    fn from(access: Access) -> u8 {
+        access as u8
+    }
+}
+
 impl Set {
     // What a key set gives.
     #[tactic(auto, unfolding(crate::specs::Access::access_of))]

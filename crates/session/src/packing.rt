@@ -63,7 +63,8 @@ impl Session {
         ]
     }
 
-    // The 128 bytes of a session.
+    // The 128 bytes of a session. Inlined: a call of it made `purse_command` on no card 1.8 times as slow.
+    #[inline(always)]
     pub fn pack(&self) -> [u8; 128]
         ensures { result ≡ packed self.now }
     {

@@ -1,17 +1,27 @@
 // Single-byte stores under a limit, over any memory.
 #![tactic(auto)]
 
-ghost use Rattle.std.specs.Prelude.{[], ◌∷◌, ◌<◌, length};
+ghost use Rattle.std.specs.Prelude.{[], ◌∷◌, ◌+◌, ◌≤◌, ◌<◌, ◌≡◌, length};
+ghost use Rattle.octets.specs.Bytes.{paste};
 ghost use Rattle.stores.specs.Stores.{writes};
 ghost use Rattle.stores.specs.Writing.{Makes};
-
-use octets::paste;
 
 // A run over memory: `room` is the number of stores that it may still make. A store is made where there is room.
 #[derive(Drop)]
 pub struct Writer<'a> {
     pub memory: &'a mut [u8],
     pub room: usize,
+}
+
+// The bytes over memory from an address on. By index: `copy_from_slice` of areas that may overlap becomes a call of `memmove`, which the
+// library for C would need from outside.
+fn copy(memory: &mut [u8], at: usize, bytes: &[u8])
+    requires { at + length bytes.now ≤ length memory.old }
+    ensures { memory.new ≡ paste memory.old at bytes.now }
+{
+    for (i, byte) in bytes.iter().enumerate() {
+        memory[at + i] = *byte;
+    }
 }
 
 impl<'a> Writer<'a> {
@@ -35,7 +45,7 @@ impl<'a> Writer<'a> {
         if self.memory.len() <= at {
             self.room = self.room.saturating_sub(bytes.len());
         } else if bytes.len() <= self.memory.len() - at && self.room >= bytes.len() {
-            paste(self.memory, at, bytes);
+            copy(self.memory, at, bytes);
             self.room -= bytes.len();
         } else {
             self.put_each(at, bytes);

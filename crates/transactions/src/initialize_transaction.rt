@@ -1,7 +1,6 @@
 // INITIALIZE TRANSACTION: may this amount be moved? Nothing in memory changes.
 ghost use Rattle.std.specs.Prelude.{◌≡◌, not, ◌&&◌, ◌||◌, ◌+◌, ◌≤◌, ltb, length};
 ghost use Rattle.apdu.specs.Refusals.{status_of};
-ghost use Rattle.session.specs.Access.{rank};
 ghost use Rattle.commands_spec.specs.InitializeTransaction.{entitled, initialize_answer, initialize_status, initialize_transaction_of};
 ghost use Rattle.commands_spec.specs.InitializeTransaction.{lacks, noted};
 ghost use Rattle.commands_spec.specs.Transaction.{not_above_zero};
@@ -23,15 +22,15 @@ pub fn lacks(p1: u8, bank: bool, pin: bool) -> bool
     p1 == 0x02 && !(bank && pin)
 }
 
-// Access and PIN flag are enough for P1.
+// Access and PIN flag are enough for P1. Access is a number too: the definition answers for every one.
 #[tactic(auto, unfolding(commands_spec::specs::InitializeTransaction::entitled))]
-pub fn entitled(p1: u8, held: Access, flag: bool) -> bool
-    ensures { result ≡ entitled p1 (rank held) flag }
+pub fn entitled(p1: u8, held: u8, flag: bool) -> bool
+    ensures { result ≡ entitled p1 held flag }
 {
     match p1 {
-        0x00 => Access::Debit <= held,
-        0x01 => Access::Credit <= held,
-        _ => flag && Access::Credit <= held,
+        0x00 => u8::from(Access::Debit) <= held,
+        0x01 => u8::from(Access::Credit) <= held,
+        _ => flag && u8::from(Access::Credit) <= held,
     }
 }
 
@@ -78,7 +77,7 @@ pub fn initialize_status(
         Refusal::FeatureMissing,
     )?;
     ensure(
-        entitled(p1, context.access(), session.verified),
+        entitled(p1, u8::from(context.access()), session.verified),
         Refusal::SecurityNotSatisfied,
     )?;
     ensure(

@@ -1,7 +1,6 @@
 // VERIFY PIN. The try is spent before the PIN is judged.
 ghost use Rattle.std.specs.Prelude.{◌≡◌};
 ghost use Rattle.apdu.specs.Refusals.{status_of};
-ghost use Rattle.session.specs.Access.{access};
 ghost use Rattle.commands_spec.specs.VerifyPin.{judged, verify_pin_of, verify_status};
 
 use apdu::{Refusal, ensure};
@@ -12,23 +11,18 @@ use objects::{Context, done, refused};
 use octets::Buffer;
 use session::Access;
 
-// 01's rules before the PIN is judged.
+// 01's rules before the PIN is judged. Four values and no `Context`, and access as a number: the definition answers for every four.
 #[tactic(auto, unfolding(commands_spec::specs::VerifyPin::verify_status))]
-pub fn verify_status(context: &Context) -> Result<(), Refusal>
-    ensures { status_of result ≡ verify_status context.now.head.purse.parameters.personalized context.now.head.pin.defined
-        (access context.now.session.channel.level) context.now.head.state.tries }
+pub fn verify_status(personalized: bool, defined: bool, held: u8, tries: u8) -> Result<(), Refusal>
+    ensures { status_of result ≡ verify_status personalized defined held tries }
 {
-    let head = &context.head;
+    ensure(personalized, Refusal::ConditionsNotSatisfied)?;
+    ensure(defined, Refusal::FeatureMissing)?;
     ensure(
-        head.purse.parameters.personalized,
-        Refusal::ConditionsNotSatisfied,
-    )?;
-    ensure(head.pin.defined, Refusal::FeatureMissing)?;
-    ensure(
-        Access::Credit <= context.access(),
+        u8::from(Access::Credit) <= held,
         Refusal::SecurityNotSatisfied,
     )?;
-    ensure(head.state.tries != 0, Refusal::NoTriesLeft)
+    ensure(tries != 0, Refusal::NoTriesLeft)
 }
 
 // A try is spent; then, where the PIN is right, tries are full.
@@ -48,7 +42,11 @@ fn judged(context: &Context, right: bool) -> Outcome
     }
     Outcome {
         commits: Commits::Hot,
-        ..refused(head.with_state(spent), session, Refusal::NotAuthenticated)
+        ..refused(
+            head.with_state(spent),
+            session,
+            u16::from(Refusal::NotAuthenticated),
+        )
     }
 }
 
@@ -57,9 +55,16 @@ fn judged(context: &Context, right: bool) -> Outcome
 pub fn verify_pin(context: &Context, body: [u8; 8]) -> Outcome
     ensures { result ≡ verify_pin_of context.now.head context.now.session body }
 {
-    if let Err(refusal) = verify_status(context) {
+    let head = &context.head;
+    let status = verify_status(
+        head.purse.parameters.personalized,
+        head.pin.defined,
+        u8::from(context.access()),
+        head.state.tries,
+    );
+    if let Err(refusal) = status {
         return context.refused(refusal);
     }
     let sent = received(context.engine, context.session.channel.enc, body);
-    judged(context, sent == context.head.pin.block)
+    judged(context, sent == head.pin.block)
 }

@@ -16,7 +16,7 @@ returns-then-ne c =
     let p = rw c.from-n.ensures at c.part.ensures in
     let d = rw c.from-n.ensures at c.cmac-mac.ensures in
     wrongly_signed _ _ _ _ _ _ (rw (← sent, ← p, ← d) (not-true _ (sym c.ne.ensures ∙ c.if-ne.true)))
-    (rw (← c.closed-then-ne.ensures) c.refused-then-ne.ensures)
+    (rw (← c.closed-then-ne.ensures) (rw c.from-then-ne.ensures at c.refused-then-ne.ensures))
 
 pub returns : goal.returns
 returns c =

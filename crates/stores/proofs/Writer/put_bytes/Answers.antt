@@ -25,6 +25,6 @@ returns-then-self-bytes c =
     record {
       same_memory = refl;
       room = rw writes-length refl;
-      left = c.paste.ensures
+      left = c.copy.ensures
           ∙ sym (limit_enough (writes a.at b) a.self.now.room m (rw writes-length (omega arith)) ∙ applied-writes b m a.at (omega arith));
     }
